@@ -1,0 +1,2 @@
+mod Meets
+mod Making

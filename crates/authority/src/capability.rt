@@ -1,0 +1,61 @@
+ghost use Prim.Native.Nat.{_-_, _<_};
+ghost use Rattle.std.specs.Options.{Cases as BySome};
+ghost use mathlib.Core.Path.{_≡_};
+use crate::bounds::Bounds;
+use crate::meet::BoundsMeet;
+use crate::meet::Pair;
+use crate::meet::PermissionsMeet;
+use crate::permissions::Permissions;
+
+// What a capability allows: where, and what.
+pub type Authority = Pair<Bounds, Permissions>;
+
+// An authority whose bounds are not empty.
+#[derive(Clone, Copy)]
+pub struct Capability {
+    authority: Authority,
+    ghost nonempty: { authority .first .base < authority .first .top },
+}
+
+impl Capability {
+    pub fn authority(self) -> Authority
+        ensures { λ r. ⌜ r ≡ self .authority ⌝ }
+    {
+        self.authority
+    }
+
+    pub fn base(self) -> u32
+        ensures { λ r. ⌜ r ≡ self .authority .first .base ⌝ }
+    {
+        self.authority.first.base()
+    }
+
+    pub fn top(self) -> u32
+        ensures { λ r. ⌜ r ≡ self .authority .first .top ⌝ }
+    {
+        self.authority.first.top()
+    }
+
+    pub fn permissions(self) -> Permissions
+        ensures { λ r. ⌜ r ≡ self .authority .second ⌝ }
+    {
+        self.authority.second
+    }
+
+    // The number of bytes within the bounds.
+    pub fn length(self) -> u32
+        ensures { λ r. ⌜ r ≡ self .authority .first .top - self .authority .first .base ⌝ }
+    {
+        self.top() - self.base()
+    }
+
+    // A capability over an authority, if its bounds are not empty.
+    pub(crate) fn keep(authority: Authority) -> Option<Capability>
+        ensures { λ r. ⌜ BySome r (authority .first .base < authority .first .top → ⊥) (λ c. c .authority ≡ authority) ⌝ }
+    {
+        if authority.first.is_empty() {
+            return None;
+        }
+        Some(Capability { authority })
+    }
+}

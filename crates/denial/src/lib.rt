@@ -1,0 +1,65 @@
+// Denials by name, with their numbers, and the layers that they come from, with their letters.
+ghost use Rattle.denial.specs.Numbers.{number-of, letter-of};
+ghost use mathlib.Core.Path.{_≡_};
+
+// Why a call is denied.
+#[derive(Clone, Copy)]
+pub enum Denial {
+    BadNum,
+    Empty,
+    Perm,
+    Bounds,
+    Align,
+    NoCap,
+    NotWhole,
+    Allowance,
+    NoRun,
+    Nothing,
+    FullReg,
+    Text,
+    Sizes,
+}
+
+impl Denial {
+    pub fn number(self) -> u8
+        ensures { λ r. ⌜ r ≡ number-of self ⌝ }
+    {
+        match self {
+            Denial::BadNum => 1,
+            Denial::Empty => 2,
+            Denial::Perm => 3,
+            Denial::Bounds => 4,
+            Denial::Align => 5,
+            Denial::NoCap => 6,
+            Denial::NotWhole => 8,
+            Denial::Allowance => 11,
+            Denial::NoRun => 12,
+            Denial::Nothing => 13,
+            Denial::FullReg => 14,
+            Denial::Text => 18,
+            Denial::Sizes => 19,
+        }
+    }
+}
+
+// Which part of the runtime denied.
+#[derive(Clone, Copy)]
+pub enum Layer {
+    Memory,
+    Machine,
+    Allocator,
+    Reader,
+}
+
+impl Layer {
+    pub fn letter(self) -> char
+        ensures { λ r. ⌜ r ≡ letter-of self ⌝ }
+    {
+        match self {
+            Layer::Memory => 'T',
+            Layer::Machine => 'M',
+            Layer::Allocator => 'A',
+            Layer::Reader => 'R',
+        }
+    }
+}
