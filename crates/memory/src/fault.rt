@@ -1,0 +1,7 @@
+// Why a memory denies.
+#[derive(Clone, Copy)]
+pub enum MemoryFault {
+    Bounds,
+    BadNum,
+    Sizes,
+}
