@@ -44,6 +44,7 @@ pub trait Allocator {
         ensures mark { λ _. ⌜ mark (now (self .exit)) ≡ allocating place (cells (now (self .entry))) (mark (now (self .entry))) (most (now (self .entry))) n .mark ⌝ }
         ensures most { λ _. ⌜ most (now (self .exit)) ≡ most (now (self .entry)) ⌝ }
         ensures inside { λ r. ⌜ made r (λ b. b + n ≤ length (cells (now (self .entry)))) ⌝ }
+        ensures size { λ _. ⌜ length (cells (now (self .exit))) ≡ length (cells (now (self .entry))) ⌝ }
         ensures denied { λ r. ⌜ (isOk r ≡ false → now (self .exit) ≡ now (self .entry)) ⌝ };
 
     // Frees the run that begins at granule b, and answers its length.
@@ -52,5 +53,6 @@ pub trait Allocator {
         ensures cells { λ _. ⌜ cells (now (self .exit)) ≡ releasing (cells (now (self .entry))) (mark (now (self .entry))) b .cells ⌝ }
         ensures mark { λ _. ⌜ mark (now (self .exit)) ≡ mark (now (self .entry)) ⌝ }
         ensures most { λ _. ⌜ most (now (self .exit)) ≡ most (now (self .entry)) ⌝ }
+        ensures size { λ _. ⌜ length (cells (now (self .exit))) ≡ length (cells (now (self .entry))) ⌝ }
         ensures denied { λ r. ⌜ (isOk r ≡ false → now (self .exit) ≡ now (self .entry)) ⌝ };
 }

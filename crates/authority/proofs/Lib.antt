@@ -1,2 +1,2 @@
 mod Meets
-mod Making
+pub mod Making

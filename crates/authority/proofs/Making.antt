@@ -4,10 +4,11 @@ use mathlib.Core.Bool.{Bool, true, false}
 use mathlib.Core.Path.{_≡_, refl, sym, _∙_, ap, ap₂, subst}
 use native.Mathlib.Omega.{arith}
 use lib.Dec.{ltb, leb}
-use Rattle.std.proofs.shelf.Tests.{ltb-true, leb-true, lt-ltb, le-leb, both-ways, cond-true}
+use Rattle.std.proofs.shelf.Tests.{ltb-true, leb-true, lt-ltb, le-leb, both-ways, cond-true, and-from}
 use Rattle.std.specs.Options.{Cases as BySome}
 use Rattle.std.specs.declared.option.Option.{Option}
 use Rattle.std.specs.declared.option.Option.the-variants.{Some, None}
+use Rattle.authority.specs.Spans.{is-within, most-bytes}
 use Rattle.authority.specs.Masks.{all-permissions}
 use Rattle.authority.specs.BoundsMeet.{bounds-between, same-bounds}
 use Rattle.authority.specs.PermissionsMeet.{permissions-from, permissions-if, same-permissions}
@@ -28,16 +29,19 @@ permissions-is n r h = go (leb n all-permissions) refl r h
     go false e None h = refl
     go false e (Some p) h = absurd (both-ways (leb n all-permissions) e (le-leb n all-permissions (subst (λ (k : ℕ). k ≤ all-permissions) h (p .known))))
 
+within-is : (x y : ℕ) → x < y → y ≤ most-bytes → is-within x y ≡ true
+within-is x y h l = and-from (ltb x y) (leb y most-bytes) (lt-ltb x y h) (le-leb y most-bytes l)
+
 -- the capability over an authority, from what is known of it
-pub capability-is : (a : Authority) (r : Option Capability) → BySome r (a .first .base < a .first .top → ⊥) (λ c. c .authority ≡ a) → r ≡ capability-over a
+pub capability-is : (a : Authority) (r : Option Capability) → BySome r (is-within (a .first .base) (a .first .top) ≡ false) (λ c. c .authority ≡ a) → r ≡ capability-over a
 unfolding capability-over
-capability-is a r h = go (ltb (a .first .base) (a .first .top)) refl r h
+capability-is a r h = go (is-within (a .first .base) (a .first .top)) refl r h
   where
-    go : (t : Bool) (e : ltb (a .first .base) (a .first .top) ≡ t) (r : Option Capability) → BySome r (a .first .base < a .first .top → ⊥) (λ c. c .authority ≡ a) → r ≡ capability-if a t e
-    go true e None h = absurd (h (ltb-true (a .first .base) (a .first .top) e))
+    go : (t : Bool) (e : is-within (a .first .base) (a .first .top) ≡ t) (r : Option Capability) → BySome r (is-within (a .first .base) (a .first .top) ≡ false) (λ c. c .authority ≡ a) → r ≡ capability-if a t e
+    go true e None h = absurd (both-ways (is-within (a .first .base) (a .first .top)) h e)
     go true e (Some c) h = ap Some (same-capability c _ h)
     go false e None h = refl
-    go false e (Some c) h = absurd (both-ways (ltb (a .first .base) (a .first .top)) e (lt-ltb _ _ (subst (λ (x : Authority). x .first .base < x .first .top) h (c .nonempty))))
+    go false e (Some c) h = absurd (both-ways (is-within (a .first .base) (a .first .top)) e (subst (λ (x : Authority). is-within (x .first .base) (x .first .top) ≡ true) h (within-is _ _ (c .nonempty) (c .reach))))
 
 -- the four bytes of a number give it back
 word-back : (n : ℕ) → n < 4294967296 → word-at (word n) 0 ≡ n
@@ -70,8 +74,9 @@ numbers-back c =
     ∙ (ap (λ x. capability-over (record { first = x; second = a .second })) b ∙ sym (capability-is a (Some c) refl))
 
 pub image-reads-back : Image-reads-back
-image-reads-back c h =
+image-reads-back c =
     let n = c .nonempty in
+    let m = c .reach in
     let b : word-at (image-of c) 0 ≡ base-of c = word-back (base-of c) (omega arith) in
     let t : word-at (image-of c) 4 ≡ top-of c = word-back (top-of c) (omega arith) in
     ap₂ (λ x y. capability-of x y (permissions-of c)) b t ∙ numbers-back c

@@ -1,5 +1,5 @@
 -- The image of a capability: 16 bytes.
-use Prim.Native.Nat.{ℕ, _+_, _*_, _/_, _%_, _<_, _^_}
+use Prim.Native.Nat.{ℕ, _+_, _*_, _/_, _%_}
 use mathlib.Core.List.{List, [], _∷_, _++_}
 use mathlib.Core.Path.{_≡_}
 use lib.ListN.{getD, replicate}
@@ -26,4 +26,4 @@ read-image bs = capability-of (word-at bs 0) (word-at bs 4) (getD bs 8 0)
 
 -- reading the image of a capability gives it back
 abbrev pub Image-reads-back : Type 0
-Image-reads-back = (c : Capability) → top-of c < 2 ^ 32 → read-image (image-of c) ≡ Some c
+Image-reads-back = (c : Capability) → read-image (image-of c) ≡ Some c

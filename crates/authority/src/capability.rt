@@ -1,5 +1,7 @@
-ghost use Prim.Native.Nat.{_-_, _<_};
+ghost use Prim.Native.Nat.{_-_, _<_, _≤_};
+ghost use Rattle.authority.specs.Spans.{is-within, most-bytes};
 ghost use Rattle.std.specs.Options.{Cases as BySome};
+ghost use mathlib.Core.Bool.{false};
 ghost use mathlib.Core.Path.{_≡_};
 use crate::bounds::Bounds;
 use crate::meet::BoundsMeet;
@@ -10,11 +12,12 @@ use crate::permissions::Permissions;
 // What a capability allows: where, and what.
 pub type Authority = Pair<Bounds, Permissions>;
 
-// An authority whose bounds are not empty.
+// An authority whose bounds are not empty and reach at most the last address of the largest memory.
 #[derive(Clone, Copy)]
 pub struct Capability {
     authority: Authority,
     ghost nonempty: { authority .first .base < authority .first .top },
+    ghost reach: { authority .first .top ≤ most-bytes },
 }
 
 impl Capability {
@@ -49,11 +52,14 @@ impl Capability {
         self.top() - self.base()
     }
 
-    // A capability over an authority, if its bounds are not empty.
+    // A capability over an authority, if its bounds are not empty and reach no further than any memory.
     pub(crate) fn keep(authority: Authority) -> Option<Capability>
-        ensures { λ r. ⌜ BySome r (authority .first .base < authority .first .top → ⊥) (λ c. c .authority ≡ authority) ⌝ }
+        ensures { λ r. ⌜ BySome r (is-within (authority .first .base) (authority .first .top) ≡ false) (λ c. c .authority ≡ authority) ⌝ }
     {
         if authority.first.is_empty() {
+            return None;
+        }
+        if authority.first.top() > 16384 {
             return None;
         }
         Some(Capability { authority })
