@@ -9,6 +9,9 @@ use crate::meet::Pair;
 use crate::meet::PermissionsMeet;
 use crate::permissions::Permissions;
 
+// The bytes of the largest memory, and so the largest top of a capability.
+pub const MAX_TOP: u32 = 16384;
+
 // What a capability allows: where, and what.
 pub type Authority = Pair<Bounds, Permissions>;
 
@@ -59,7 +62,7 @@ impl Capability {
         if authority.first.is_empty() {
             return None;
         }
-        if authority.first.top() > 16384 {
+        if authority.first.top() > MAX_TOP {
             return None;
         }
         Some(Capability { authority })

@@ -6,6 +6,9 @@ ghost use Rattle.std.specs.declared.option.Option.the-variants.{None};
 ghost use mathlib.Core.Path.{_≡_};
 use crate::permission::Permission;
 
+// The number of all permissions.
+pub const ALL_PERMISSIONS: u32 = 31;
+
 // A set of permissions: r (load) 1, w (store) 2, c (load or store capabilities) 4, g (give) 8, o (own) 16.
 #[derive(Clone, Copy)]
 pub struct Permissions {
@@ -28,18 +31,11 @@ impl Permission {
 }
 
 impl Permissions {
-    // All permissions.
-    pub fn all() -> Permissions
-        ensures { λ r. ⌜ r .bits ≡ all-permissions ⌝ }
-    {
-        Permissions { bits: 31 }
-    }
-
     // The permissions of a number, if there are such.
     pub(crate) fn new(number: u32) -> Option<Permissions>
         ensures { λ r. ⌜ BySome r (number ≤ all-permissions → ⊥) (λ p. p .bits ≡ number) ⌝ }
     {
-        if number > 31 {
+        if number > ALL_PERMISSIONS {
             return None;
         }
         Some(Permissions { bits: number as u8 })

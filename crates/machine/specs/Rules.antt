@@ -21,6 +21,7 @@ use Rattle.call.specs.declared.Call.the-variants as C
 use Rattle.memory.specs.Memories.{byte-read, capability-stored, change-at, granule-read}
 use Rattle.memory.specs.declared.fault.MemoryFault.{MemoryFault}
 use Rattle.memory.specs.declared.granule.Granule.{Granule}
+use Rattle.machine.specs.Answers.{granule-answer, length-of}
 use Rattle.machine.specs.Faults.{from-memory}
 use Rattle.machine.specs.Model.{Fixed, State, Effect, denied, accepted, compartment-count, register-count, register-at, with-register, with-byte, with-capability, with-map}
 use Rattle.machine.specs.declared.fault.MachineFault.{MachineFault}
@@ -56,10 +57,6 @@ is-register c r = ltb c compartment-count && ltb r register-count
 
 abbrev pub is-operand : ℕ → Bool
 is-operand n = leb n 65535
-
--- the number of bytes of a capability
-abbrev pub length-of : Capability → ℕ
-length-of a = top-of a - base-of a
 
 -- grant c r n: register r of c gets the bytes of a new run of n granules with all permissions; its base address is answered
 abbrev pub granted : State → ℕ → ℕ → ℕ → Allocation → Result ℕ AllocatorFault → Effect
@@ -105,12 +102,10 @@ putb-rule s c r off v =
     (unless (ltb off (length-of a)) Bounds
     (by-memory (change-at (base-of a + off) (length (s .bytes))) λ _. accepted 0 (with-byte s (base-of a + off) v))))
 
--- an access to the granule at base + off of a capability
-abbrev pub at-granule : Capability → ℕ → (ℕ → Effect) → Effect
-at-granule a off k =
-    unless (leb (off + 16) (length-of a)) Bounds
-    (unless (eqb ((base-of a + off) % 16) 0) Align
-    (k ((base-of a + off) / 16)))
+-- the granule at base + off of a capability, or the denial
+abbrev pub at-granule : Result ℕ MachineFault → (ℕ → Effect) → Effect
+at-granule (Err f) k = denied f
+at-granule (Ok g) k = k g
 
 -- putc c r off s: the capability of s is stored at base + off
 abbrev pub putc-rule : State → ℕ → ℕ → ℕ → ℕ → Effect
@@ -119,7 +114,7 @@ putc-rule s c r off t =
     (held (register-at s c r) λ a.
     held (register-at s c t) λ b.
     unless (allows (permissions-of a) Store && allows (permissions-of a) Capabilities) Perm
-    (at-granule a off λ g.
+    (at-granule (granule-answer a off) λ g.
     by-memory (capability-stored (s .bytes) (s .tags) g (base-of b) (top-of b) (permissions-of b)) λ _.
     accepted 0 (with-capability s g b)))
 
@@ -133,7 +128,7 @@ getc-rule s c r off t =
     unless (is-register c r && (is-register c t && is-operand off)) BadNum
     (held (register-at s c r) λ a.
     unless (allows (permissions-of a) Load && allows (permissions-of a) Capabilities) Perm
-    (at-granule a off λ g.
+    (at-granule (granule-answer a off) λ g.
     by-memory (granule-read (s .bytes) (s .tags) g) λ x.
     unless (x .tagged) NoCap
     (loaded s c t (capability-of (x .base) (x .top) (x .permissions)))))

@@ -1,5 +1,6 @@
 ghost use Rattle.machine.specs.Model.{Fixed, State};
 ghost use lib.ListN.{length};
+use crate::checks::granule_at;
 use crate::checks::is_operand;
 use crate::checks::is_register;
 use crate::compartment_machine::CompartmentMachine;
@@ -15,6 +16,7 @@ use authority::meet::BoundsMeet;
 use authority::meet::Pair;
 use authority::meet::PermissionsMeet;
 use authority::permission::Permission;
+use authority::permissions::ALL_PERMISSIONS;
 use authority::permissions::Permissions;
 use memory::tagged_memory::TaggedMemory;
 
@@ -42,7 +44,7 @@ pub impl<M: TaggedMemory, B: Allocator> CompartmentMachine for Machine<M, B> as 
         self.registers.put(
             compartment,
             register,
-            Capability::new(base, base + 16 * granules, 31),
+            Capability::new(base, base + 16 * granules, ALL_PERMISSIONS),
         );
         Ok(base)
     }
@@ -134,14 +136,8 @@ pub impl<M: TaggedMemory, B: Allocator> CompartmentMachine for Machine<M, B> as 
         if !permissions.allows(Permission::Store) || !permissions.allows(Permission::Capabilities) {
             return Err(MachineFault::Perm);
         }
-        if offset + 16 > held.length() {
-            return Err(MachineFault::Bounds);
-        }
-        let at = held.base() + offset;
-        if at % 16 != 0 {
-            return Err(MachineFault::Align);
-        }
-        store_image(&mut self.memory, (at / 16) as usize, stored)?;
+        let g = granule_at(held, offset)?;
+        store_image(&mut self.memory, g, stored)?;
         Ok(0)
     }
 
@@ -163,14 +159,8 @@ pub impl<M: TaggedMemory, B: Allocator> CompartmentMachine for Machine<M, B> as 
         if !permissions.allows(Permission::Load) || !permissions.allows(Permission::Capabilities) {
             return Err(MachineFault::Perm);
         }
-        if offset + 16 > held.length() {
-            return Err(MachineFault::Bounds);
-        }
-        let at = held.base() + offset;
-        if at % 16 != 0 {
-            return Err(MachineFault::Align);
-        }
-        let granule = self.memory.read_granule((at / 16) as usize)?;
+        let g = granule_at(held, offset)?;
+        let granule = self.memory.read_granule(g)?;
         if !granule.tagged {
             return Err(MachineFault::NoCap);
         }

@@ -5,10 +5,13 @@ ghost use lib.ListN.{getD, set};
 ghost use mathlib.Core.Path.{_≡_};
 use authority::capability::Capability;
 
+// The registers of a compartment.
+pub const REGISTERS: usize = 8;
+
 // A compartment: eight registers, each empty or with one capability.
 #[derive(Clone, Copy)]
 pub struct Compartment {
-    registers: [Option<Capability>; 8],
+    registers: [Option<Capability>; REGISTERS],
 }
 
 impl Compartment {
@@ -17,7 +20,7 @@ impl Compartment {
         ensures { λ r. ⌜ r ≡ empty-compartment ⌝ }
     {
         Compartment {
-            registers: [None; 8],
+            registers: [None; REGISTERS],
         }
     }
 

@@ -6,10 +6,13 @@ use crate::compartment::Compartment;
 use crate::fault::MachineFault;
 use authority::capability::Capability;
 
+// The number of compartments.
+pub const COMPARTMENTS: usize = 8;
+
 // The registers of the eight compartments.
 #[derive(Clone, Copy)]
 pub struct Registers {
-    compartments: [Compartment; 8],
+    compartments: [Compartment; COMPARTMENTS],
 }
 
 impl Registers {
@@ -17,7 +20,7 @@ impl Registers {
         ensures { λ r. ⌜ r ≡ empty-registers ⌝ }
     {
         Registers {
-            compartments: [Compartment::empty(); 8],
+            compartments: [Compartment::empty(); COMPARTMENTS],
         }
     }
 
