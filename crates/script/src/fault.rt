@@ -1,0 +1,16 @@
+use machine::fault::MachineFault;
+use reader::place::Place;
+
+// A machine's fault at a line of a script.
+#[derive(Clone, Copy)]
+pub struct LineFault {
+    pub line: usize,
+    pub fault: MachineFault,
+}
+
+// Why a line of a script is denied: it reads as no call, or the machine denies its call.
+#[derive(Clone, Copy)]
+pub enum ScriptFault {
+    Text(Place),
+    Call(LineFault),
+}
