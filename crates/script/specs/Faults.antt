@@ -5,6 +5,10 @@ use Rattle.denial.specs.declared.Denial.the-variants as D
 use Rattle.denial.specs.declared.Layer.{Layer}
 use Rattle.denial.specs.declared.Layer.the-variants as L
 use Rattle.machine.specs.Faults.{machine-denial, machine-layer}
+use Rattle.reader.specs.declared.script.ReadError.{ReadError}
+use Rattle.reader.specs.declared.script.ReadError.the-variants as E
+use Rattle.script.specs.declared.fault.RunError.{RunError}
+use Rattle.script.specs.declared.fault.RunError.the-variants.{Denied, Memory}
 use Rattle.script.specs.declared.fault.ScriptFault.{ScriptFault}
 use Rattle.script.specs.declared.fault.ScriptFault.the-variants.{Text, Call}
 
@@ -26,3 +30,8 @@ script-line (Call f) = f .line
 abbrev pub script-answer : ScriptFault → ℕ
 script-answer (Text p) = p .word
 script-answer (Call f) = 0
+
+-- a script that is too long is TEXT at line 0, word 0
+abbrev pub unread : ReadError → RunError
+unread E.TooLong = Denied (Text (record { line = 0; word = 0 }))
+unread (E.Memory e) = Memory e

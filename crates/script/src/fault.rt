@@ -1,5 +1,6 @@
 use machine::fault::MachineFault;
 use reader::place::Place;
+use std::alloc::AllocError;
 
 // A machine's fault at a line of a script.
 #[derive(Clone, Copy)]
@@ -13,4 +14,11 @@ pub struct LineFault {
 pub enum ScriptFault {
     Text(Place),
     Call(LineFault),
+}
+
+// Why a script is not run at all: it is too long, or there is no memory for what it comes to.
+#[derive(Clone, Copy)]
+pub enum RunError {
+    Denied(ScriptFault),
+    Memory(AllocError),
 }

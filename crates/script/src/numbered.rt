@@ -1,12 +1,17 @@
 ghost use Rattle.denial.specs.Numbers.{number-of};
 ghost use Rattle.script.specs.Faults.{script-answer, script-denial, script-layer, script-line};
+ghost use Rattle.script.specs.Faults.{unread};
+ghost use Rattle.script.specs.declared.fault.RunError.the-variants.{Memory as MemoryCase};
 ghost use Rattle.script.specs.declared.fault.ScriptFault.the-variants.{Call as CallCase, Text as TextCase};
 ghost use mathlib.Core.Path.{_≡_};
 use crate::fault::LineFault;
+use crate::fault::RunError;
 use crate::fault::ScriptFault;
 use denial::Denial;
 use denial::Layer;
 use reader::place::Place;
+use reader::script::ReadError;
+use std::alloc::AllocError;
 
 impl ScriptFault {
     pub fn denial(self) -> Denial
@@ -66,5 +71,25 @@ pub impl From<LineFault> for ScriptFault as ScriptFromLine {
 
     fn from(fault: LineFault) -> ScriptFault {
         ScriptFault::Call(fault)
+    }
+}
+
+pub impl From<AllocError> for RunError as RunFromAllocError {
+    ghost converts = { λ x y. y ≡ MemoryCase x };
+
+    fn from(error: AllocError) -> RunError {
+        RunError::Memory(error)
+    }
+}
+
+// A script that is too long is TEXT at line 0, word 0.
+pub impl From<ReadError> for RunError as RunFromReadError {
+    ghost converts = { λ x y. y ≡ unread x };
+
+    fn from(error: ReadError) -> RunError {
+        match error {
+            ReadError::TooLong => RunError::Denied(ScriptFault::Text(Place { line: 0, word: 0 })),
+            ReadError::Memory(error) => RunError::Memory(error),
+        }
     }
 }

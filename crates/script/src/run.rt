@@ -1,17 +1,21 @@
-ghost use Rattle.script.specs.Runs.{answer-at, line-outcome, outcomes-of, reading-state, state-of};
+ghost use Rattle.script.specs.Runs.{answer-at, line-outcome, outcomes-of, Runs-script, reading-state, state-of};
 ghost use Rattle.std.specs.Of.Vec.{vec-items};
 ghost use Rattle.std.specs.Results.{isOk};
 ghost use Rattle.std.specs.Vec.{made};
 ghost use mathlib.Core.Bool.{false, true};
 ghost use mathlib.Core.Path.{_≡_};
 use crate::fault::LineFault;
+use crate::fault::RunError;
 use crate::fault::ScriptFault;
+use crate::numbered::RunFromAllocError;
+use crate::numbered::RunFromReadError;
 use crate::numbered::ScriptFromLine;
 use crate::numbered::ScriptFromPlace;
 use crate::outcome::LineOutcome;
 use machine::compartment_machine::CompartmentMachine;
 use machine::fault::MachineFault;
 use reader::script::Entry;
+use reader::script::read_script;
 use std::alloc::AllocError;
 use std::alloc::Global;
 
@@ -63,5 +67,20 @@ pub fn run_entries<C: CompartmentMachine>(
     for entry in entries {
         outcomes.push_reserved(run_line(machine, *entry));
     }
+    Ok(outcomes)
+}
+
+// Reads a script and runs it: what each line that is not empty comes to, in order.
+pub fn run_script<C: CompartmentMachine>(
+    heap: Global,
+    machine: &mut C,
+    script: &[u8],
+) -> Result<Vec<LineOutcome>, RunError>
+    ensures runs { λ r. ⌜ Runs-script (C·CompartmentMachine .fixed (now (machine .entry))) (C·CompartmentMachine .state (now (machine .entry))) (C·CompartmentMachine .state (now (machine .exit))) (now (script .entry)) r ⌝ }
+    ensures fixed { λ _. ⌜ C·CompartmentMachine .fixed (now (machine .exit)) ≡ C·CompartmentMachine .fixed (now (machine .entry)) ⌝ }
+    ensures denied { λ r. ⌜ (isOk r ≡ false → now (machine .exit) ≡ now (machine .entry)) ⌝ }
+{
+    let entries = read_script(heap.clone()?, script)?;
+    let outcomes = run_entries(heap, machine, &entries)?;
     Ok(outcomes)
 }
