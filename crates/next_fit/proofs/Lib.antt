@@ -1,0 +1,4 @@
+mod Seeks
+mod Cells
+mod Counts
+mod Lengths

@@ -1,0 +1,3 @@
+pub mod Placement
+pub mod Bitmaps
+pub mod Laws
