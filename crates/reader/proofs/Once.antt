@@ -1,16 +1,13 @@
 -- A line reads in one way only.
 use Prim.Native.Nat.{ℕ, _+_, _-_, _<_, _≤_}
-use mathlib.Core.Path.{_≡_, refl, sym, _∙_, ap}
+use mathlib.Core.Path.{_≡_, sym, _∙_, ap}
 use mathlib.Core.Logic.{⊎-elim}
 use mathlib.Core.List.{List, _++_}
 use lib.ListN.{length, drop, take}
 use native.Mathlib.Omega.{arith}
-use Rattle.std.specs.declared.result.Result.{Result}
 use Rattle.std.specs.declared.result.Result.the-variants.{Ok, Err}
 use Rattle.std.proofs.shelf.Lists.{take-append-drop, append-assoc, take-take}
 use Rattle.std.proofs.shelf.Tests.{cases-order}
-use Rattle.call.specs.declared.Call.{Call}
-use Rattle.reader.specs.declared.place.Place.{Place}
 use Rattle.reader.specs.Lines.{split, Begins, Wrong, Reads, Reads-once}
 use Rattle.reader.proofs.Calls.{split-text, words-once}
 

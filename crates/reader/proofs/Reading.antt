@@ -1,5 +1,5 @@
 -- The lines of a script, one after another.
-use Prim.Native.Nat.{ℕ, zero, suc, _+_, _-_, _<_, _≤_}
+use Prim.Native.Nat.{ℕ, suc, _+_, _-_, _<_, _≤_}
 use mathlib.Core.Path.{_≡_, refl, sym, _∙_, ap, subst}
 use mathlib.Core.Bool.{Bool, true, false}
 use mathlib.Core.List.{List, [], _∷_, _++_}
@@ -8,9 +8,9 @@ use lib.Dec.{eqb}
 use native.Mathlib.Omega.{arith}
 use Rattle.std.proofs.shelf.Lists.{length-drop, drop-drop, drop-all, take-rest, length-take-le, append-nil, append-assoc}
 use Rattle.reader.specs.declared.script.Entry.{Entry}
-use Rattle.reader.specs.Lines.{onto-first, Reads}
-use Rattle.reader.specs.Scripts.{lines-of, Numbered-line, numbered-from, numbered-lines, Readings, Line-at, Line-pushed}
-use Rattle.reader.specs.Steps.{length-before}
+use Rattle.reader.specs.Lines.{onto-first}
+use Rattle.reader.specs.Scripts.{lines-of, Numbered-line, numbered-from, numbered-lines, Readings}
+use Rattle.reader.specs.Steps.{length-before, Line-at, Line-pushed}
 
 -- the first line of a text, and the others
 lines-cut : (xs : List ℕ) → 0 < length xs → lines-of xs ≡ take (length-before 10 xs) xs ∷ lines-of (drop (suc (length-before 10 xs)) xs)

@@ -1,13 +1,12 @@
 -- The words of a line.
-use Prim.Native.Nat.{ℕ, zero, suc, _+_, _-_, _<_, _≤_}
+use Prim.Native.Nat.{ℕ, suc, _+_, _-_, _<_, _≤_}
 use mathlib.Core.Path.{_≡_, refl, sym, _∙_, ap}
 use mathlib.Core.Bool.{Bool, true, false, cond, _&&_, not}
-use mathlib.Core.Logic.{_⊎_, inl, inr}
+use mathlib.Core.Logic.{inl, inr}
 use mathlib.Core.List.{List, [], _∷_, _++_}
-use lib.ListN.{length, getD, drop, take}
+use lib.ListN.{length, drop, take}
 use lib.Dec.{eqb, leb}
 use native.Mathlib.Omega.{arith}
-use native.Mathlib.Numerals.{add-one}
 use Rattle.std.proofs.shelf.Lists.{length-drop, drop-drop, take-rest, length-take-le}
 use Rattle.std.proofs.shelf.Tests.{cond-true, cond-false, cases-bool, and-parts, eqb-true, not-true}
 use Rattle.std.proofs.shelf.Ways.{tells}
@@ -36,11 +35,6 @@ from-step xs at n h e =
     let d : drop (suc n) (drop at xs) ≡ drop (at + (n + 1)) xs = ap (λ m. drop m (drop at xs)) s ∙ drop-drop (n + 1) at xs in
     let w : words-from (drop at xs) (suc n) ≡ words-from xs (at + (n + 1)) = λ i. cond (k i) (split (d i)) [] in
     cond-true _ _ _ t ∙ (split-cut (drop at xs) ∙ (ap (λ m. take m (drop at xs) ∷ words-from (drop at xs) (suc m)) (sym e) ∙ ap (λ ws. take n (drop at xs) ∷ ws) w))
-
-pub split-first : (xs : List ℕ) (n : ℕ) → n ≡ length-before 32 xs → split xs ≡ take n xs ∷ words-from xs (n + 1)
-split-first xs n e =
-    let s : suc n ≡ n + 1 = omega arith in
-    split-cut xs ∙ (ap (λ m. take m xs ∷ words-from xs (suc m)) (sym e) ∙ ap (λ m. take n xs ∷ words-from xs m) s)
 
 -- a line is its words with spaces between
 pub record Apart (xs : List ℕ) : Type 0 where
@@ -117,6 +111,3 @@ first-cut xs w n k e =
     let t : leb 0 (length xs) ≡ true = grind (arith, tells) in
     let s : 0 + (length w + 1) ≡ n + 1 = omega arith in
     sym (cond-true _ _ _ t) ∙ (k .words ∙ ap (λ m. w ∷ words-from xs m) s)
-
-pub next-cut : (xs w : List ℕ) (at n : ℕ) → Word-at xs at w → n ≡ length w → words-from xs at ≡ w ∷ words-from xs (at + (n + 1))
-next-cut xs w at n k e = k .words ∙ ap (λ m. w ∷ words-from xs (at + (m + 1))) (sym e)

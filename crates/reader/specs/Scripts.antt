@@ -1,9 +1,9 @@
 -- The lines of a script, and what a script reads as.
 use Prim.Native.Nat.{ℕ, _+_, _<_, _≤_}
 use mathlib.Core.Bool.{cond}
-use mathlib.Core.List.{List, [], _∷_, _++_}
+use mathlib.Core.List.{List, [], _∷_}
 use mathlib.Core.Path.{_≡_}
-use lib.ListN.{length, drop}
+use lib.ListN.{length}
 use lib.Dec.{eqb}
 use Rattle.std.specs.Of.Vec.{vec-items}
 use Rattle.std.specs.declared.vec.Vec.{Vec}
@@ -46,12 +46,3 @@ abbrev pub Reads-script : {Z : Type 0} → List ℕ → Result (Vec Entry Z) Rea
 Reads-script script (Ok v) = (length script ≤ 32768) × Readings (numbered-lines script) (vec-items v)
 Reads-script script (Err TooLong) = 32768 < length script
 Reads-script script (Err (Memory e)) = length script ≤ 32768
-
--- w is the line that begins at a byte of a script
-pub record Line-at (script : List ℕ) (at : ℕ) (w : List ℕ) : Type 0 where
-  pub lines : lines-of (drop at script) ≡ w ∷ lines-of (drop (at + (length w + 1)) script)
-  pub within : at + length w ≤ length script
-
--- the entries after are those before, and the line's if it is not empty
-abbrev pub Line-pushed : List ℕ → ℕ → List Entry → List Entry → Type 0
-Line-pushed line number before after = (es : List Entry) × Readings (numbered-from number (line ∷ [])) es × (after ≡ before ++ es)

@@ -1,7 +1,7 @@
 -- What the steps of the reader answer: the contracts of its private functions.
 use Prim.Native.Nat.{ℕ, suc, _+_, _-_, _*_, _<_, _≤_}
-use mathlib.Core.Bool.{Bool, true, false, cond, not, _&&_, _||_}
-use mathlib.Core.List.{List, [], _∷_}
+use mathlib.Core.Bool.{Bool, cond, not, _&&_, _||_}
+use mathlib.Core.List.{List, [], _∷_, _++_}
 use mathlib.Core.Path.{_≡_}
 use lib.ListN.{length, getD, drop}
 use lib.Dec.{eqb, leb, ltb}
@@ -12,6 +12,8 @@ use Rattle.reader.specs.declared.verb.Verb.{Verb}
 use Rattle.reader.specs.declared.verb.Verb.the-variants.{Grant}
 use Rattle.reader.specs.Calls.{name-of}
 use Rattle.reader.specs.Lines.{split}
+use Rattle.reader.specs.Scripts.{lines-of, numbered-from, Readings}
+use Rattle.reader.specs.declared.script.Entry.{Entry}
 
 -- how many bytes stand before the first stop, or before the end
 abbrev pub length-before : ℕ → List ℕ → ℕ
@@ -52,3 +54,12 @@ words-from line at = cond (leb at (length line)) (split (drop at line)) []
 pub record Word-at (line : List ℕ) (at : ℕ) (w : List ℕ) : Type 0 where
   pub words : words-from line at ≡ w ∷ words-from line (at + (length w + 1))
   pub within : at + length w ≤ length line
+
+-- w is the line that begins at a byte of a script
+pub record Line-at (script : List ℕ) (at : ℕ) (w : List ℕ) : Type 0 where
+  pub lines : lines-of (drop at script) ≡ w ∷ lines-of (drop (at + (length w + 1)) script)
+  pub within : at + length w ≤ length script
+
+-- the entries after are those before, and the line's if it is not empty
+abbrev pub Line-pushed : List ℕ → ℕ → List Entry → List Entry → Type 0
+Line-pushed line number before after = (es : List Entry) × Readings (numbered-from number (line ∷ [])) es × (after ≡ before ++ es)

@@ -59,45 +59,29 @@ mod tests {
     use super::*;
     use std::test::*;
 
-    #[test]
-    fn reads_a_call() -> Result<(), Fail> {
-        match read_line(b"derive 0 1 2 16 65535 rwo", 1) {
-            Ok(
-                Call::Derive {
-                    compartment: 0,
-                    register: 1,
-                    source: 2,
-                    offset: 16,
-                    length: 65535,
-                    permissions: 19,
-                },
-            ) => Ok(()),
-            _ => Err(Fail::new("the call's text is not read")),
+    // The number of the first wrong word; 0 if the line reads as a call.
+    fn wrong_word(line: &[u8]) -> usize {
+        match read_line(line, 1) {
+            Ok(_) => 0,
+            Err(place) => place.word,
         }
     }
 
     #[test]
-    fn names_the_first_wrong_word() -> Result<(), Fail> {
-        let lines: [(&[u8], usize); 9] = [
-            (b"grant 0 0 01", 4),
-            (b"grant 0 0 65536", 4),
-            (b"drop 0 0 ", 4),
-            (b"drop  0 0", 2),
-            (b"drop 0", 3),
-            (b" ", 1),
-            (b"", 1),
-            (b"free 0 0", 1),
-            (b"derive 0 1 2 16 16 wr", 7),
-        ];
-        for (line, word) in lines {
-            match read_line(line, 5) {
-                Ok(_) => return Err(Fail::new("a line that is no call's text is read")),
-                Err(place) => {
-                    check_eq(place.line, 5)?;
-                    check_eq(place.word, word)?;
-                }
-            }
-        }
-        Ok(())
+    fn reads_a_call() -> Result<(), Fail> {
+        check_eq(wrong_word(b"drop 0 0"), 0)?;
+        check_eq(wrong_word(b"derive 0 1 2 16 65535 rwo"), 0)
+    }
+
+    #[test]
+    fn refuses_a_leading_zero() -> Result<(), Fail> {
+        check_eq(wrong_word(b"grant 0 0 01"), 4)
+    }
+
+    #[test]
+    fn refuses_an_empty_word() -> Result<(), Fail> {
+        check_eq(wrong_word(b"drop 0 0 "), 4)?;
+        check_eq(wrong_word(b"drop  0 0"), 2)?;
+        check_eq(wrong_word(b" "), 1)
     }
 }

@@ -1,8 +1,6 @@
 use Prim.Native.Nat.{ℕ, _+_, _≤_, _<_}
-use mathlib.Core.Path.{_≡_, refl, sym, subst, _∙_, ap}
-use mathlib.Core.Bool.{false, true}
+use mathlib.Core.Path.{_≡_, refl, sym, _∙_, ap}
 use mathlib.Core.List.{List, _∷_, _++_}
-use lib.Dec.{ltb}
 use lib.ListN.{length, take}
 use native.Mathlib.Omega.{arith}
 use borrow.Author.Needs.{needs}
@@ -11,11 +9,10 @@ use Rattle.std.proofs.shelf.Ways.{tells}
 use Rattle.std.specs.declared.result.Result.the-variants.{Ok, Err}
 use Rattle.reader.specs.declared.verb.Verb.{Verb}
 use Rattle.reader.specs.Calls.{name-of, operand-texts, kinds-of}
-use Rattle.reader.specs.Lines.{split}
 use Rattle.reader.specs.Steps.{words-from}
 use Rattle.reader.proofs.Once.{reads-once}
 use Rattle.reader.proofs.Operands.{operand-read}
-use Rattle.reader.proofs.Splits.{from-step, from-past, first-cut, next-cut}
+use Rattle.reader.proofs.Splits.{from-step, from-past, first-cut}
 use Rattle.reader.proofs.Stopping.{stops-at, breaks-at, no-verb, wrong-word, too-many, missing, whole, again}
 use Rattle.reader.proofs.line.read_line.Needs as need
 
