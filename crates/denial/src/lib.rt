@@ -11,11 +11,17 @@ pub enum Denial {
     Bounds,
     Align,
     NoCap,
+    Revoked,
     NotWhole,
+    Freed,
+    QFull,
     Allowance,
     NoRun,
     Nothing,
     FullReg,
+    Open,
+    NoSweep,
+    Idle,
     Text,
     Sizes,
 }
@@ -31,11 +37,17 @@ impl Denial {
             Denial::Bounds => 4,
             Denial::Align => 5,
             Denial::NoCap => 6,
+            Denial::Revoked => 7,
             Denial::NotWhole => 8,
+            Denial::Freed => 9,
+            Denial::QFull => 10,
             Denial::Allowance => 11,
             Denial::NoRun => 12,
             Denial::Nothing => 13,
             Denial::FullReg => 14,
+            Denial::Open => 15,
+            Denial::NoSweep => 16,
+            Denial::Idle => 17,
             Denial::Text => 18,
             Denial::Sizes => 19,
         }
@@ -47,6 +59,7 @@ impl Denial {
 pub enum Layer {
     Memory,
     Machine,
+    Quarantine,
     Allocator,
     Reader,
 }
@@ -58,6 +71,7 @@ impl Layer {
         match self {
             Layer::Memory => 'T',
             Layer::Machine => 'M',
+            Layer::Quarantine => 'Q',
             Layer::Allocator => 'A',
             Layer::Reader => 'R',
         }

@@ -7,9 +7,19 @@ use Rattle.allocator.specs.Faults.{allocator-denial}
 use Rattle.memory.specs.declared.fault.MemoryFault.{MemoryFault}
 use Rattle.memory.specs.declared.fault.MemoryFault.the-variants as T
 use Rattle.machine.specs.declared.fault.MachineFault.{MachineFault}
-use Rattle.machine.specs.declared.fault.MachineFault.the-variants.{BadNum, Empty, Perm, Bounds, Align, NoCap, Nothing, FullReg, Sizes, Allocator}
+use Rattle.machine.specs.declared.fault.MachineFault.the-variants.{BadNum, Empty, Perm, Bounds, Align, NoCap, NotWhole, Nothing, FullReg, Sizes, Quarantine, Allocator}
+use Rattle.machine.specs.declared.quarantine.QuarantineFault.{QuarantineFault}
+use Rattle.machine.specs.declared.quarantine.QuarantineFault.the-variants as Q
 
--- the denial of a fault; the allocator's fault is held whole
+abbrev pub quarantine-denial : QuarantineFault → Denial
+quarantine-denial Q.Revoked = D.Revoked
+quarantine-denial Q.Freed = D.Freed
+quarantine-denial Q.QFull = D.QFull
+quarantine-denial Q.Open = D.Open
+quarantine-denial Q.NoSweep = D.NoSweep
+quarantine-denial Q.Idle = D.Idle
+
+-- the denial of a fault; the faults of quarantine and allocator are held whole
 abbrev pub machine-denial : MachineFault → Denial
 machine-denial BadNum = D.BadNum
 machine-denial Empty = D.Empty
@@ -17,9 +27,11 @@ machine-denial Perm = D.Perm
 machine-denial Bounds = D.Bounds
 machine-denial Align = D.Align
 machine-denial NoCap = D.NoCap
+machine-denial NotWhole = D.NotWhole
 machine-denial Nothing = D.Nothing
 machine-denial FullReg = D.FullReg
 machine-denial Sizes = D.Sizes
+machine-denial (Quarantine f) = quarantine-denial f
 machine-denial (Allocator f) = allocator-denial f
 
 -- the layer of a fault
@@ -30,9 +42,11 @@ machine-layer Perm = L.Machine
 machine-layer Bounds = L.Machine
 machine-layer Align = L.Machine
 machine-layer NoCap = L.Machine
+machine-layer NotWhole = L.Machine
 machine-layer Nothing = L.Machine
 machine-layer FullReg = L.Machine
 machine-layer Sizes = L.Machine
+machine-layer (Quarantine f) = L.Quarantine
 machine-layer (Allocator f) = L.Allocator
 
 -- what a memory denies, the machine denies as its own

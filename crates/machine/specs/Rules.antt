@@ -1,6 +1,7 @@
 -- The rules of the calls: their checks in order, and what an accepted call answers and changes.
 use Prim.Native.Nat.{ℕ, _+_, _-_, _*_, _/_, _%_}
-use mathlib.Core.Bool.{Bool, true, false, cond, _&&_}
+use mathlib.Core.Bool.{Bool, true, false, cond, not, _&&_}
+use mathlib.Core.List.{List, []}
 use lib.ListN.{length}
 use lib.Dec.{eqb, leb, ltb}
 use Rattle.std.specs.declared.option.Option.{Option}
@@ -8,24 +9,29 @@ use Rattle.std.specs.declared.option.Option.the-variants.{Some, None}
 use Rattle.std.specs.declared.result.Result.{Result}
 use Rattle.std.specs.declared.result.Result.the-variants.{Ok, Err}
 use Rattle.allocator.specs.Allocators.{Allocation, allocating}
+use Rattle.allocator.specs.Maps.{run-length}
 use Rattle.allocator.specs.declared.fault.AllocatorFault.{AllocatorFault}
 use Rattle.authority.specs.BoundsMeet.{bounds-between}
 use Rattle.authority.specs.Capabilities.{Authority, base-of, top-of, permissions-of, capability-of, capability-over, meet-authority}
 use Rattle.authority.specs.Masks.{all-permissions, allows}
 use Rattle.authority.specs.PermissionsMeet.{permissions-from}
 use Rattle.authority.specs.declared.capability.Capability.{Capability}
-use Rattle.authority.specs.declared.permission.Permission.the-variants.{Load, Store, Capabilities, Give}
+use Rattle.authority.specs.declared.permission.Permission.the-variants.{Load, Store, Capabilities, Give, Own}
 use Rattle.authority.specs.declared.permissions.Permissions.{Permissions}
-use Rattle.call.specs.declared.Call.{Call}
-use Rattle.call.specs.declared.Call.the-variants as C
 use Rattle.memory.specs.Memories.{byte-read, capability-stored, change-at, granule-read}
 use Rattle.memory.specs.declared.fault.MemoryFault.{MemoryFault}
 use Rattle.memory.specs.declared.granule.Granule.{Granule}
 use Rattle.machine.specs.Answers.{granule-answer, length-of}
+use Rattle.machine.specs.Calls.{Call}
 use Rattle.machine.specs.Faults.{from-memory}
-use Rattle.machine.specs.Model.{Fixed, State, Effect, denied, accepted, compartment-count, register-count, register-at, with-register, with-byte, with-capability, with-map}
+use Rattle.machine.specs.Model.{Fixed, State, Effect, denied, accepted, compartment-count, register-count, register-at, with-register, with-byte, with-capability, with-map, with-waiting, with-painted, with-passed, with-ended, with-shut}
+use Rattle.machine.specs.Runs.{begins-at, in-runs, most-runs}
+use Rattle.machine.specs.declared.quarantine.QuarantineFault.the-variants as Q
+use Rattle.machine.specs.declared.quarantine.Run.{Run}
+use Rattle.machine.specs.declared.quarantine.Sweep.{Sweep}
+use Rattle.machine.specs.declared.quarantine.Sweep.the-variants.{Idle, Open}
 use Rattle.machine.specs.declared.fault.MachineFault.{MachineFault}
-use Rattle.machine.specs.declared.fault.MachineFault.the-variants.{BadNum, Empty, Perm, Bounds, Align, NoCap, Nothing, FullReg, Sizes, Allocator}
+use Rattle.machine.specs.declared.fault.MachineFault.the-variants.{BadNum, Empty, Perm, Bounds, Align, NoCap, NotWhole, Nothing, FullReg, Sizes, Quarantine, Allocator}
 
 -- a check: denied unless it holds
 abbrev pub unless : Bool → MachineFault → Effect → Effect
@@ -73,6 +79,14 @@ grant-rule K s c r n =
 abbrev pub wanted : Capability → ℕ → ℕ → Permissions → Authority
 wanted a lo len p = record { first = bounds-between (base-of a + lo) (base-of a + lo + len); second = p }
 
+-- what deriving gives, with a permission number: none if nothing is left, or if the number is none
+abbrev pub derived-with : Capability → ℕ → ℕ → Option Permissions → Option Capability
+derived-with a lo len None = None
+derived-with a lo len (Some p) = capability-over (meet-authority (a .authority) (wanted a lo len p))
+
+abbrev pub derived : Capability → ℕ → ℕ → ℕ → Option Capability
+derived a lo len n = derived-with a lo len (permissions-from n)
+
 abbrev pub narrowed : State → ℕ → ℕ → Option Capability → Effect
 narrowed s c r None = denied Nothing
 narrowed s c r (Some d) = accepted (length-of d) (with-register s c r (Some d))
@@ -118,10 +132,14 @@ putc-rule s c r off t =
     by-memory (capability-stored (s .bytes) (s .tags) g (base-of b) (top-of b) (permissions-of b)) λ _.
     accepted 0 (with-capability s g b)))
 
--- getc c r off s: the capability at base + off is loaded into s
+-- getc c r off s: the capability at base + off is loaded into s, unless a sweep is open and its base is painted
+abbrev pub is-revoked : Sweep → List Run → Capability → Bool
+is-revoked Idle rs b = false
+is-revoked (Open n) rs b = in-runs rs (base-of b / 16)
+
 abbrev pub loaded : State → ℕ → ℕ → Option Capability → Effect
 loaded s c t None = denied NoCap
-loaded s c t (Some b) = accepted 0 (with-register s c t (Some b))
+loaded s c t (Some b) = unless (not (is-revoked (s .sweep) (s .painted) b)) (Quarantine Q.Revoked) (accepted 0 (with-register s c t (Some b)))
 
 abbrev pub getc-rule : State → ℕ → ℕ → ℕ → ℕ → Effect
 getc-rule s c r off t =
@@ -145,13 +163,53 @@ give-rule s c r d t =
 abbrev pub drop-rule : State → ℕ → ℕ → Effect
 drop-rule s c r = unless (is-register c r) BadNum (accepted 0 (with-register s c r None))
 
+-- free c r: the run of r, which has to be whole and not to wait already, joins the end of the waiting list; its base address is answered
+abbrev pub is-whole : State → Capability → Bool
+is-whole s a = eqb (base-of a % 16) 0 && eqb (length-of a) (16 * run-length (s .cells) (base-of a / 16))
+
+abbrev pub run-under : State → Capability → Run
+run-under s a = record { start = base-of a / 16; length = run-length (s .cells) (base-of a / 16) }
+
+abbrev pub free-rule : State → ℕ → ℕ → Effect
+free-rule s c r =
+    unless (is-register c r) BadNum
+    (held (register-at s c r) λ a.
+    unless (allows (permissions-of a) Own) Perm
+    (unless (is-whole s a) NotWhole
+    (unless (not (begins-at (s .waiting) (base-of a / 16))) (Quarantine Q.Freed)
+    (unless (ltb (length (s .waiting) + length (s .painted)) most-runs) (Quarantine Q.QFull)
+    (accepted (base-of a) (with-waiting s (run-under s a)))))))
+
+-- open: the waiting runs are painted; their number is answered
+abbrev pub open-rule : State → Sweep → Effect
+open-rule s (Open n) = denied (Quarantine Q.Open)
+open-rule s Idle = unless (ltb 0 (length (s .waiting))) (Quarantine Q.Idle) (accepted (length (s .waiting)) (with-painted s))
+
+-- step k: the next k granules are passed, and once all are the sweep ends; the granules left are answered
+abbrev pub stepped : ℕ → State → ℕ → Sweep → Effect
+stepped all s k Idle = denied (Quarantine Q.NoSweep)
+stepped all s k (Open p) =
+    cond (leb all (p + k)) (accepted 0 (with-ended (with-passed s p (all - p)))) (accepted (all - (p + k)) (with-passed s p k))
+
+abbrev pub step-rule : Fixed → State → ℕ → Effect
+step-rule K s k = unless (is-operand k && ltb 0 k) BadNum (stepped (K .memory-granules) s k (s .sweep))
+
+-- shut: the painted runs wait again; their number is answered
+abbrev pub shut-rule : State → Sweep → Effect
+shut-rule s Idle = denied (Quarantine Q.NoSweep)
+shut-rule s (Open p) = accepted (length (s .painted)) (with-shut s)
+
 -- what each call comes to
 abbrev pub perform : Fixed → State → Call → Effect
-perform K s (C.Grant c r n) = grant-rule K s c r n
-perform K s (C.Derive c r t lo len p) = derive-rule s c r t lo len p
-perform K s (C.Getb c r off) = getb-rule s c r off
-perform K s (C.Putb c r off v) = putb-rule s c r off v
-perform K s (C.Putc c r off t) = putc-rule s c r off t
-perform K s (C.Getc c r off t) = getc-rule s c r off t
-perform K s (C.Give c r d t) = give-rule s c r d t
-perform K s (C.Drop c r) = drop-rule s c r
+perform K s (Call.Grant c r n) = grant-rule K s c r n
+perform K s (Call.Free c r) = free-rule s c r
+perform K s (Call.Derive c r t lo len p) = derive-rule s c r t lo len p
+perform K s (Call.Getb c r off) = getb-rule s c r off
+perform K s (Call.Putb c r off v) = putb-rule s c r off v
+perform K s (Call.Putc c r off t) = putc-rule s c r off t
+perform K s (Call.Getc c r off t) = getc-rule s c r off t
+perform K s (Call.Give c r d t) = give-rule s c r d t
+perform K s (Call.Drop c r) = drop-rule s c r
+perform K s Call.OpenSweep = open-rule s (s .sweep)
+perform K s (Call.Step k) = step-rule K s k
+perform K s Call.Shut = shut-rule s (s .sweep)

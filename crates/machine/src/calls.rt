@@ -1,5 +1,7 @@
 ghost use Rattle.machine.specs.Model.{Fixed, State};
+ghost use Rattle.machine.specs.declared.quarantine.Sweep.the-variants.{Idle as SweepIdle};
 ghost use lib.ListN.{length};
+ghost use mathlib.Core.List.{[]};
 use crate::checks::granule_at;
 use crate::checks::is_operand;
 use crate::checks::is_register;
@@ -23,7 +25,7 @@ use memory::tagged_memory::TaggedMemory;
 pub impl<M: TaggedMemory, B: Allocator> CompartmentMachine for Machine<M, B> as MachineCalls {
     ghost fixed = { λ m. record { memory-granules = length (M·TaggedMemory .tags (m .memory)); allocator-granules = length (B·Allocator .cells (m .allocator)); most = B·Allocator .most (m .allocator); place = B·Allocator .place; lawful = B·Allocator .lawful } };
 
-    ghost state = { λ m. record { registers = m .registers; bytes = M·TaggedMemory .bytes (m .memory); tags = M·TaggedMemory .tags (m .memory); cells = B·Allocator .cells (m .allocator); mark = B·Allocator .mark (m .allocator) } };
+    ghost state = { λ m. record { registers = m .registers; bytes = M·TaggedMemory .bytes (m .memory); tags = M·TaggedMemory .tags (m .memory); cells = B·Allocator .cells (m .allocator); mark = B·Allocator .mark (m .allocator); waiting = []; painted = []; sweep = SweepIdle } };
 
     fn grant(
         &mut self,

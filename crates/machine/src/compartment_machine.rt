@@ -1,3 +1,4 @@
+ghost use Rattle.machine.specs.Calls.{call-of};
 ghost use Rattle.machine.specs.Model.{Fixed, State, outcome, state-after};
 ghost use Rattle.machine.specs.Rules.{derive-rule, drop-rule, getb-rule, getc-rule, give-rule, grant-rule, perform as perform-rule, putb-rule, putc-rule};
 ghost use Rattle.std.specs.Results.{isOk};
@@ -103,8 +104,8 @@ pub trait CompartmentMachine {
 
     // Makes any call.
     fn perform(&mut self, call: Call) -> Result<u32, MachineFault>
-        ensures answer { λ r. ⌜ r ≡ outcome (perform-rule (fixed (now (self .entry))) (state (now (self .entry))) call) ⌝ }
-        ensures state { λ _. ⌜ state (now (self .exit)) ≡ state-after (state (now (self .entry))) (perform-rule (fixed (now (self .entry))) (state (now (self .entry))) call) ⌝ }
+        ensures answer { λ r. ⌜ r ≡ outcome (perform-rule (fixed (now (self .entry))) (state (now (self .entry))) (call-of call)) ⌝ }
+        ensures state { λ _. ⌜ state (now (self .exit)) ≡ state-after (state (now (self .entry))) (perform-rule (fixed (now (self .entry))) (state (now (self .entry))) (call-of call)) ⌝ }
         ensures fixed { λ _. ⌜ fixed (now (self .exit)) ≡ fixed (now (self .entry)) ⌝ }
         ensures denied { λ r. ⌜ (isOk r ≡ false → now (self .exit) ≡ now (self .entry)) ⌝ }
     {

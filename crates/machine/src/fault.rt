@@ -1,6 +1,7 @@
+use crate::quarantine::QuarantineFault;
 use allocator::fault::AllocatorFault;
 
-// Why a machine denies a call; the allocator's fault is held whole.
+// Why a machine denies a call; the faults of quarantine and allocator are held whole.
 #[derive(Clone, Copy)]
 pub enum MachineFault {
     BadNum,
@@ -9,8 +10,10 @@ pub enum MachineFault {
     Bounds,
     Align,
     NoCap,
+    NotWhole,
     Nothing,
     FullReg,
     Sizes,
+    Quarantine(QuarantineFault),
     Allocator(AllocatorFault),
 }

@@ -8,6 +8,7 @@ use Rattle.std.specs.declared.vec.Vec.{Vec}
 use Rattle.std.specs.declared.result.Result.{Result}
 use Rattle.std.specs.declared.result.Result.the-variants.{Ok, Err}
 use Rattle.call.specs.declared.Call.{Call as TheCall}
+use Rattle.machine.specs.Calls.{call-of}
 use Rattle.machine.specs.Model.{Fixed, State, outcome, state-after}
 use Rattle.machine.specs.Rules.{perform}
 use Rattle.machine.specs.declared.fault.MachineFault.{MachineFault}
@@ -33,12 +34,12 @@ script-answer-at (Err f) = Err (Call f)
 -- what a line comes to: TEXT if it reads as no call, else what the machine answers
 abbrev pub reading-outcome : Fixed → State → ℕ → Result TheCall Place → Result ℕ ScriptFault
 reading-outcome K s n (Err p) = Err (Text p)
-reading-outcome K s n (Ok c) = script-answer-at (answer-at n (outcome (perform K s c)))
+reading-outcome K s n (Ok c) = script-answer-at (answer-at n (outcome (perform K s (call-of c))))
 
 -- the state after a line: a line that reads as no call changes nothing
 abbrev pub reading-state : Fixed → State → Result TheCall Place → State
 reading-state K s (Err p) = s
-reading-state K s (Ok c) = state-after s (perform K s c)
+reading-state K s (Ok c) = state-after s (perform K s (call-of c))
 
 abbrev pub line-outcome : Fixed → State → Entry → LineOutcome
 line-outcome K s e = record { line = e .line; outcome = reading-outcome K s (e .line) (e .reading) }
