@@ -1,2 +1,2 @@
-mod Meets
+pub mod Meets
 pub mod Making

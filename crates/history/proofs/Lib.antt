@@ -1,0 +1,17 @@
+mod Base
+mod Places
+mod Authorities
+mod Laws
+mod View
+mod Invariant
+mod Live
+mod Changes
+mod Steps
+mod Accesses
+mod Returning
+mod Rooms
+mod Tidy
+mod Core
+mod Both
+mod Keeps
+mod Apart
