@@ -64,3 +64,50 @@ pub fn run_text(heap: Global, script: &[u8]) -> Result<String, AllocError> {
         Err(RunError::Memory(error)) => Err(error),
     }
 }
+
+#[cfg(test)]
+mod tests {
+    use super::*;
+    use machine::compartment_machine::CompartmentMachine;
+    use std::test::*;
+
+    // The code and the layer of a first grant over buffers of these sizes, or 0 and `-`.
+    fn first_grant(tags: &mut [u8], used: &mut [u8], firsts: &mut [u8]) -> (u8, char) {
+        let mut bytes = [0u8; 512];
+        let mut machine = Machine::new(Flat::new(&mut bytes, tags), NextFit::new(used, firsts));
+        match machine.grant(0, 0, 1) {
+            Ok(_) => (0, '-'),
+            Err(fault) => (fault.code(), fault.layer().letter()),
+        }
+    }
+
+    #[test]
+    fn parts_of_different_sizes_grant_nothing() -> Result<(), Fail> {
+        check_eq(first_grant(&mut [0; 4], &mut [0; 4], &mut [0; 4]), (0, '-'))?;
+        check_eq(
+            first_grant(&mut [0; 4], &mut [0; 2], &mut [0; 2]),
+            (19, 'M'),
+        )
+    }
+
+    #[test]
+    fn parts_of_no_granules_agree() -> Result<(), Fail> {
+        check_eq(
+            first_grant(&mut [0; 3], &mut [0; 3], &mut [0; 2]),
+            (11, 'A'),
+        )
+    }
+
+    #[test]
+    fn an_empty_script_prints_the_head(rt: LibcRuntime) -> Result<(), Fail> {
+        let text = run_text(rt.alloc(), b"")?;
+        check(text.as_str() == "B 32\n")
+    }
+
+    #[test]
+    fn a_script_that_is_too_long_prints_one_line(rt: LibcRuntime) -> Result<(), Fail> {
+        let script = vec![in rt.alloc(); 10u8; 32769]?;
+        let text = run_text(rt.alloc(), &script)?;
+        check(text.as_str() == "0 18 R 0\n")
+    }
+}
