@@ -190,65 +190,6 @@ opened : (K : Fixed) (s : State) (b : Ledger) → Inv K s b → {d : Effect} →
 opened K s b v v-no a q = err-ok q
 opened K s b v (v-open e) a q = (refl, refl, v .idle e)
 
-after-shut : (K : Fixed) (s : State) {d : Effect} → View K s Call.Shut d → state-after s d .cells ≡ s .cells
-after-shut K s v-no = refl
-after-shut K s (v-shut p e) = refl
-
-pub returned : (K : Fixed) (p q : List Call) (r : Run) (a : ℕ) → Sized K → answer-to K p Call.OpenSweep ≡ Ok a → Waits K p r
-    → No-shuts q (outcomes-since K p q) → granules-since K p q < K .memory-granules → Returns K p q r
-returned K p q r a sz acc w un lt = record {
-  not-yet = subst (λ (y : State). None-free y r) (sym go-on) taken;
-  then = λ k c ans le g i.
-      subst (λ (y : State). getD (y .cells) g free ≡ free) (sym (last (Call.Step k)))
-      (at-end K t _ inv (0 + named) k (on .0) (omega (arith, n-same)) (view K t (Call.Step k)) c (subst (λ (y : State). outcome (perform K y (Call.Step k)) ≡ Ok c) go-on ans) g (in-among (t .painted) r g am (i .0) (i .1)));
-  shut = λ c ans g i e. taken g i (sym (ap (λ (l : List Cell). getD l g free) (after-shut K t (view K t Call.Shut))) ∙ (sym (ap (λ (y : State). getD (y .cells) g free) (last Call.Shut)) ∙ e));
-}
-  where
-    s : State
-    s = after K p
-
-    o : State
-    o = state-after s (perform K s Call.OpenSweep)
-
-    t : State
-    t = state-after-all K o q
-
-    named : ℕ
-    named = granules-named-in q (outcomes K o q)
-
-    first-open : after K (p ++ (Call.OpenSweep ∷ [])) ≡ o
-    first-open = after-append K (fresh-state K) p (Call.OpenSweep ∷ [])
-
-    go-on : after K (p ++ (Call.OpenSweep ∷ q)) ≡ t
-    go-on = after-append K (fresh-state K) p (Call.OpenSweep ∷ q)
-
-    last : (x : Call) → after K (p ++ (Call.OpenSweep ∷ (q ++ (x ∷ [])))) ≡ state-after t (perform K t x)
-    last x = after-append K (fresh-state K) p (Call.OpenSweep ∷ (q ++ (x ∷ []))) ∙ after-append K o q (x ∷ [])
-
-    inv-s : Inv K s (ledger K p)
-    inv-s = inv-of K p sz
-
-    op : (o .sweep ≡ Open 0) × (o .painted ≡ s .waiting) × (s .painted ≡ [])
-    op = opened K s (ledger K p) inv-s (view K s Call.OpenSweep) a acc
-
-    n-same : granules-since K p q ≡ named
-    n-same = ap (λ (x : State). granules-named-in q (outcomes K x q)) first-open
-
-    on : On o t 0 named
-    on = on-run K q o 0 (op .0) (subst (λ (x : State). No-shuts q (outcomes K x q)) first-open un) (omega (arith, n-same))
-
-    inv : Inv K t (noted-all (note (ledger K p) Call.OpenSweep (outcome (perform K s Call.OpenSweep))) q (outcomes K o q))
-    inv = inv-run K q o _ (inv-step K s (ledger K p) inv-s (view K s Call.OpenSweep))
-
-    waiting-at : Among r (s .waiting)
-    waiting-at = subst (λ (l : List Run). Among r (l ++ s .waiting)) (op .2) (waits-held K p r sz w)
-
-    am : Among r (t .painted)
-    am = subst (λ (l : List Run). Among r l) (sym (on .1 ∙ op .1)) waiting-at
-
-    taken : None-free t r
-    taken = held-not-free inv r (among-left (t .painted) (t .waiting) r am)
-
 -- no granule becomes free in any other way
 
 -- a list with one more element, cut in two
@@ -350,6 +291,69 @@ every P step done (x ∷ todo) h = subst P (append-assoc done (x ∷ []) todo) (
 
 pub all-wait : (K : Fixed) (p : List Call) → Sized K → All-wait K p
 all-wait K p sz = every (All-wait K) (λ q x. wait-step K q x sz) [] p (λ r am. absurd am)
+
+-- what holds of a run that waits at an open
+
+-- a shut keeps the runs in quarantine
+after-shut : (K : Fixed) (s : State) {d : Effect} → View K s Call.Shut d → (r : Run) → Among r (s .painted ++ s .waiting) → Among r (state-after s d .painted ++ state-after s d .waiting)
+after-shut K s v-no r am = am
+after-shut K s (v-shut p e) r am = am
+
+pub returned : (K : Fixed) (p q : List Call) (r : Run) (a : ℕ) → Sized K → answer-to K p Call.OpenSweep ≡ Ok a → Waits K p r
+    → No-shuts q (outcomes-since K p q) → granules-since K p q < K .memory-granules → Returns K p q r
+returned K p q r a sz acc w un lt = record {
+  not-yet = subst (λ (y : State). None-free y r) (sym go-on) taken;
+  then = λ k c ans le g i.
+      subst (λ (y : State). getD (y .cells) g free ≡ free) (sym (last (Call.Step k)))
+      (at-end K t _ inv (0 + named) k (on .0) (omega (arith, n-same)) (view K t (Call.Step k)) c (subst (λ (y : State). outcome (perform K y (Call.Step k)) ≡ Ok c) go-on ans) g (in-among (t .painted) r g am (i .0) (i .1)));
+  shut = λ c ans. all-wait K (p ++ (Call.OpenSweep ∷ (q ++ (Call.Shut ∷ [])))) sz r
+      (subst (λ (y : State). Among r (y .painted ++ y .waiting)) (sym (last Call.Shut)) (after-shut K t (view K t Call.Shut) r (among-left (t .painted) (t .waiting) r am)));
+}
+  where
+    s : State
+    s = after K p
+
+    o : State
+    o = state-after s (perform K s Call.OpenSweep)
+
+    t : State
+    t = state-after-all K o q
+
+    named : ℕ
+    named = granules-named-in q (outcomes K o q)
+
+    first-open : after K (p ++ (Call.OpenSweep ∷ [])) ≡ o
+    first-open = after-append K (fresh-state K) p (Call.OpenSweep ∷ [])
+
+    go-on : after K (p ++ (Call.OpenSweep ∷ q)) ≡ t
+    go-on = after-append K (fresh-state K) p (Call.OpenSweep ∷ q)
+
+    last : (x : Call) → after K (p ++ (Call.OpenSweep ∷ (q ++ (x ∷ [])))) ≡ state-after t (perform K t x)
+    last x = after-append K (fresh-state K) p (Call.OpenSweep ∷ (q ++ (x ∷ []))) ∙ after-append K o q (x ∷ [])
+
+    inv-s : Inv K s (ledger K p)
+    inv-s = inv-of K p sz
+
+    op : (o .sweep ≡ Open 0) × (o .painted ≡ s .waiting) × (s .painted ≡ [])
+    op = opened K s (ledger K p) inv-s (view K s Call.OpenSweep) a acc
+
+    n-same : granules-since K p q ≡ named
+    n-same = ap (λ (x : State). granules-named-in q (outcomes K x q)) first-open
+
+    on : On o t 0 named
+    on = on-run K q o 0 (op .0) (subst (λ (x : State). No-shuts q (outcomes K x q)) first-open un) (omega (arith, n-same))
+
+    inv : Inv K t (noted-all (note (ledger K p) Call.OpenSweep (outcome (perform K s Call.OpenSweep))) q (outcomes K o q))
+    inv = inv-run K q o _ (inv-step K s (ledger K p) inv-s (view K s Call.OpenSweep))
+
+    waiting-at : Among r (s .waiting)
+    waiting-at = subst (λ (l : List Run). Among r (l ++ s .waiting)) (op .2) (waits-held K p r sz w)
+
+    am : Among r (t .painted)
+    am = subst (λ (l : List Run). Among r l) (sym (on .1 ∙ op .1)) waiting-at
+
+    taken : None-free t r
+    taken = held-not-free inv r (among-left (t .painted) (t .waiting) r am)
 
 -- an open sweep goes back to its open
 

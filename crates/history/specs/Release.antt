@@ -98,12 +98,12 @@ abbrev pub granules-since : Fixed → List Call → List Call → ℕ
 granules-since K p q = granules-named-in q (outcomes-since K p q)
 
 -- what holds of a run that waits at an accepted open, after calls q with no accepted shut whose steps name fewer granules than the memory has:
--- it is not free; it is free after the step with which they reach the memory's number; after a shut it is still not free
+-- it is not free; it is free after the step with which they reach the memory's number; after a shut it waits again
 pub record Returns (K : Fixed) (p q : List Call) (r : Run) : Type 0 where
   pub not-yet : None-free (after K (p ++ (Call.OpenSweep ∷ q))) r
   pub then : (k a : ℕ) → answer-to K (p ++ (Call.OpenSweep ∷ q)) (Call.Step k) ≡ Ok a → K .memory-granules ≤ granules-since K p q + k
       → All-free (after K (p ++ (Call.OpenSweep ∷ (q ++ (Call.Step k ∷ []))))) r
-  pub shut : (a : ℕ) → answer-to K (p ++ (Call.OpenSweep ∷ q)) Call.Shut ≡ Ok a → None-free (after K (p ++ (Call.OpenSweep ∷ (q ++ (Call.Shut ∷ []))))) r
+  pub shut : (a : ℕ) → answer-to K (p ++ (Call.OpenSweep ∷ q)) Call.Shut ≡ Ok a → Waits K (p ++ (Call.OpenSweep ∷ (q ++ (Call.Shut ∷ [])))) r
 
 -- a granule that becomes free with a call: the call is the step that ends a sweep, and the granule lies in a run that waited at that sweep's open
 pub record Freed-by-sweep (K : Fixed) (p : List Call) (x : Call) (g : ℕ) : Type 0 where
