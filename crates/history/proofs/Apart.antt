@@ -13,7 +13,7 @@ use Rattle.machine.specs.Calls.{Call}
 use Rattle.machine.specs.Model.{Fixed, State, Effect, empty-registers, fresh-state, outcome, register-at, state-after}
 use Rattle.machine.specs.Rules.{granted, is-operand, is-register, perform, stepped, unless}
 use Rattle.machine.specs.declared.fault.MachineFault.the-variants.{BadNum, Sizes}
-use Rattle.machine.specs.declared.quarantine.Sweep.the-variants.{Idle}
+use Rattle.quarantine.specs.declared.sweep.Sweep.the-variants.{Idle}
 use Rattle.history.specs.Histories.{Outcome, Sized, after, outcomes, state-after-all}
 use Rattle.history.specs.Isolation.{Alike, Every, Gives-apart, Group, Group-cannot-interfere, Indistinguishable, Line, calls-in, is-ours, is-struck, left, lines-left, other-outcomes, own-outcomes}
 use Rattle.history.specs.Ledgers.{Ledger, empty-ledger, note, noted-all, slot}

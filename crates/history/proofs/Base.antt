@@ -12,7 +12,7 @@ use Rattle.std.specs.declared.option.Option.the-variants.{Some, None}
 use Rattle.std.specs.declared.result.Result.{Result}
 use Rattle.std.specs.declared.result.Result.the-variants.{Ok, Err}
 use Rattle.std.proofs.shelf.Ways.{tells}
-use Rattle.machine.specs.declared.quarantine.Run.{Run}
+use Rattle.quarantine.specs.declared.run.Run.{Run}
 
 pub no-yes : {X : Type 0} → true ≡ false → X
 no-yes q = let z : _≡_ {A = ℕ} 0 1 = cc in absurd (let f : ⊥ = omega arith in f)

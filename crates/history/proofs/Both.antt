@@ -18,7 +18,7 @@ use Rattle.authority.specs.declared.capability.Capability.{Capability}
 use Rattle.memory.specs.Memories.{granule-at}
 use Rattle.machine.specs.Model.{Fixed, State, with-register, with-map, with-byte, with-capability, with-waiting, with-painted, with-passed, with-ended, with-shut}
 use Rattle.machine.specs.Runs.{in-runs, released-cells, survivor}
-use Rattle.machine.specs.declared.quarantine.Run.{Run}
+use Rattle.quarantine.specs.declared.run.Run.{Run}
 use Rattle.history.specs.Isolation.{Group, Outside}
 use Rattle.history.specs.Ledgers.{Entry, Ledger, put-at, slot, with-entry, with-grant, with-granule}
 use Rattle.history.proofs.Base.{within}

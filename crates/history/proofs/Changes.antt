@@ -23,9 +23,9 @@ use Rattle.machine.specs.Answers.{length-of}
 use Rattle.machine.specs.Model.{Fixed, State, with-register, with-map, with-byte, with-capability, with-waiting, with-painted, with-passed, with-ended, with-shut}
 use Rattle.machine.specs.Rules.{is-revoked, run-under}
 use Rattle.machine.specs.Runs.{begins-at, in-runs, survivor, swept-tags, released-cells}
-use Rattle.machine.specs.declared.quarantine.Run.{Run}
-use Rattle.machine.specs.declared.quarantine.Sweep.{Sweep}
-use Rattle.machine.specs.declared.quarantine.Sweep.the-variants.{Idle, Open}
+use Rattle.quarantine.specs.declared.run.Run.{Run}
+use Rattle.quarantine.specs.declared.sweep.Sweep.{Sweep}
+use Rattle.quarantine.specs.declared.sweep.Sweep.the-variants.{Idle, Open}
 use Rattle.history.specs.Ledgers.{Entry, Grant, Ledger, put-at, slot, with-entry, with-grant, with-granule}
 use Rattle.history.proofs.Base.{Among, among-append, among-left, among-right, no-yes, some-none, some-same, within, within-true}
 use Rattle.history.proofs.Laws.{Inside-all, Whole-run, base-at, capability-at, get-released, get-set, get-swept, get-taken, get-wiped-bytes, get-wiped-tags, length-image, length-released, length-swept, length-taken, length-wiped-bytes, length-wiped-tags, made-base, read-image, read-other, read-same, read-set, reg, reg-emptied, reg-put, run-end, shaped-emptied, shaped-put}

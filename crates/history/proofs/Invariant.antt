@@ -14,8 +14,8 @@ use Rattle.authority.specs.Masks.{all-permissions}
 use Rattle.authority.specs.declared.capability.Capability.{Capability}
 use Rattle.machine.specs.Model.{Fixed, State}
 use Rattle.machine.specs.Runs.{begins-at, in-runs}
-use Rattle.machine.specs.declared.quarantine.Run.{Run}
-use Rattle.machine.specs.declared.quarantine.Sweep.the-variants.{Idle, Open}
+use Rattle.quarantine.specs.declared.run.Run.{Run}
+use Rattle.quarantine.specs.declared.sweep.Sweep.the-variants.{Idle, Open}
 use Rattle.history.specs.Histories.{Sized}
 use Rattle.history.specs.Ledgers.{Entry, Grant, Ledger}
 use Rattle.history.specs.Provenance.{Lies-within}

@@ -33,10 +33,10 @@ use Rattle.machine.specs.Rules.{perform, unless, held, vacant, permitted, by-me
 use Rattle.machine.specs.Runs.{begins-at, most-runs}
 use Rattle.machine.specs.declared.fault.MachineFault.{MachineFault}
 use Rattle.machine.specs.declared.fault.MachineFault.the-variants as F
-use Rattle.machine.specs.declared.quarantine.QuarantineFault.the-variants as Q
-use Rattle.machine.specs.declared.quarantine.Run.{Run}
-use Rattle.machine.specs.declared.quarantine.Sweep.{Sweep}
-use Rattle.machine.specs.declared.quarantine.Sweep.the-variants.{Idle, Open}
+use Rattle.quarantine.specs.declared.fault.QuarantineFault.the-variants as Q
+use Rattle.quarantine.specs.declared.run.Run.{Run}
+use Rattle.quarantine.specs.declared.sweep.Sweep.{Sweep}
+use Rattle.quarantine.specs.declared.sweep.Sweep.the-variants.{Idle, Open}
 use Rattle.history.specs.Isolation.{Group, Gives-apart, Outside, is-ours, is-struck}
 use Rattle.history.specs.Ledgers.{Entry, Grant, Ledger, granted as noted-grant, loaded as noted-load, note, noted, slot, stored, with-entry, with-granule}
 use Rattle.history.proofs.Base.{err-ok, no-yes, ok-same, some-none, some-same}

@@ -28,7 +28,7 @@ use Rattle.machine.specs.Model.{State, empty-compartment, empty-registers, regi
 use Rattle.machine.specs.Rules.{derived, derived-with, wanted}
 use Rattle.machine.specs.Runs.{in-run, in-runs, survivor, emptied-compartment, emptied-registers, swept-tag, swept-tags, wiped-bytes, wiped-tags, released-cells}
 use Rattle.machine.specs.declared.compartment.Compartment.{Compartment}
-use Rattle.machine.specs.declared.quarantine.Run.{Run}
+use Rattle.quarantine.specs.declared.run.Run.{Run}
 use Rattle.machine.specs.declared.registers.Registers.{Registers}
 use Rattle.history.specs.Ledgers.{slot}
 use Rattle.history.specs.Provenance.{Lies-within}

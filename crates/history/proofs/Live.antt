@@ -17,7 +17,7 @@ use Rattle.authority.specs.Capabilities.{base-of, capability-of, top-of}
 use Rattle.authority.specs.Masks.{all-permissions}
 use Rattle.authority.specs.declared.capability.Capability.{Capability}
 use Rattle.machine.specs.Runs.{begins-at, in-run, in-runs}
-use Rattle.machine.specs.declared.quarantine.Run.{Run}
+use Rattle.quarantine.specs.declared.run.Run.{Run}
 use Rattle.history.specs.Ledgers.{Entry, Grant, put-at}
 use Rattle.history.proofs.Base.{Among, no-yes, some-same, within, within-true}
 use Rattle.history.proofs.Laws.{Disjoint, get-taken, made-base, run-end, run-first, within-bounds, within-self}

@@ -21,9 +21,9 @@ use Rattle.machine.specs.Calls.{Call}
 use Rattle.machine.specs.Model.{Effect, Fixed, State, accepted, denied, fresh-state, outcome, state-after, with-ended}
 use Rattle.machine.specs.Rules.{perform}
 use Rattle.machine.specs.Runs.{in-run, in-runs}
-use Rattle.machine.specs.declared.quarantine.Run.{Run}
-use Rattle.machine.specs.declared.quarantine.Sweep.{Sweep}
-use Rattle.machine.specs.declared.quarantine.Sweep.the-variants.{Idle, Open}
+use Rattle.quarantine.specs.declared.run.Run.{Run}
+use Rattle.quarantine.specs.declared.sweep.Sweep.{Sweep}
+use Rattle.quarantine.specs.declared.sweep.Sweep.the-variants.{Idle, Open}
 use Rattle.history.specs.Histories.{Outcome, Sized, after, answer-to, outcomes, outcomes-of, state-after-all}
 use Rattle.history.specs.Ledgers.{Grant, Ledger, empty-ledger, note, noted-all}
 use Rattle.history.specs.Provenance.{ledger}

@@ -19,7 +19,7 @@ use Rattle.machine.specs.Calls.{Call}
 use Rattle.machine.specs.Model.{Fixed, State, Effect, outcome, state-after, with-register, with-register-in, with-map, with-byte, with-capability, with-passed, with-ended}
 use Rattle.machine.specs.Rules.{derived}
 use Rattle.machine.specs.Runs.{in-runs, survivor}
-use Rattle.machine.specs.declared.quarantine.Run.{Run}
+use Rattle.quarantine.specs.declared.run.Run.{Run}
 use Rattle.history.specs.Isolation.{Group, Gives-apart}
 use Rattle.history.specs.Ledgers.{Entry, Grant, Ledger, derived-entry, granted, loaded, note, slot, stored, with-entry, with-grant, with-granule, with-provenance}
 use Rattle.history.proofs.Base.{no-yes, some-none, some-same, within, within-true}

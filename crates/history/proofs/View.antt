@@ -32,8 +32,8 @@ use Rattle.machine.specs.Rules.{perform, unless, held, vacant, permitted, by-me
 use Rattle.machine.specs.Runs.{begins-at}
 use Rattle.machine.specs.declared.fault.MachineFault.{MachineFault}
 use Rattle.machine.specs.declared.fault.MachineFault.the-variants.{Align, Bounds, NoCap, Perm}
-use Rattle.machine.specs.declared.quarantine.Sweep.{Sweep}
-use Rattle.machine.specs.declared.quarantine.Sweep.the-variants.{Idle, Open}
+use Rattle.quarantine.specs.declared.sweep.Sweep.{Sweep}
+use Rattle.quarantine.specs.declared.sweep.Sweep.the-variants.{Idle, Open}
 use Rattle.history.proofs.Base.{err-ok, ok-same}
 use Rattle.history.proofs.Laws.{capability-at}
 

@@ -7,7 +7,7 @@ use Rattle.std.specs.declared.result.Result.the-variants.{Ok, Err}
 use Rattle.allocator.specs.Maps.{free, run-length}
 use Rattle.machine.specs.Calls.{Call}
 use Rattle.machine.specs.Model.{Fixed, State}
-use Rattle.machine.specs.declared.quarantine.Run.{Run}
+use Rattle.quarantine.specs.declared.run.Run.{Run}
 use Rattle.history.specs.Histories.{Outcome, Sized, after, answer-to, outcomes}
 
 -- granule g lies in a run

@@ -6,18 +6,9 @@ use Rattle.denial.specs.declared.Layer.the-variants as L
 use Rattle.allocator.specs.Faults.{allocator-denial}
 use Rattle.memory.specs.declared.fault.MemoryFault.{MemoryFault}
 use Rattle.memory.specs.declared.fault.MemoryFault.the-variants as T
+use Rattle.quarantine.specs.Faults.{quarantine-denial}
 use Rattle.machine.specs.declared.fault.MachineFault.{MachineFault}
 use Rattle.machine.specs.declared.fault.MachineFault.the-variants.{BadNum, Empty, Perm, Bounds, Align, NoCap, NotWhole, Nothing, FullReg, Sizes, Quarantine, Allocator}
-use Rattle.machine.specs.declared.quarantine.QuarantineFault.{QuarantineFault}
-use Rattle.machine.specs.declared.quarantine.QuarantineFault.the-variants as Q
-
-abbrev pub quarantine-denial : QuarantineFault → Denial
-quarantine-denial Q.Revoked = D.Revoked
-quarantine-denial Q.Freed = D.Freed
-quarantine-denial Q.QFull = D.QFull
-quarantine-denial Q.Open = D.Open
-quarantine-denial Q.NoSweep = D.NoSweep
-quarantine-denial Q.Idle = D.Idle
 
 -- the denial of a fault; the faults of quarantine and allocator are held whole
 abbrev pub machine-denial : MachineFault → Denial

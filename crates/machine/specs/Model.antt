@@ -13,9 +13,9 @@ use Rattle.memory.specs.Memories.{with-image}
 use Rattle.machine.specs.Runs.{emptied-registers, released-cells, swept-tags, wiped-bytes, wiped-tags}
 use Rattle.machine.specs.declared.compartment.Compartment.{Compartment}
 use Rattle.machine.specs.declared.registers.Registers.{Registers}
-use Rattle.machine.specs.declared.quarantine.Run.{Run}
-use Rattle.machine.specs.declared.quarantine.Sweep.{Sweep}
-use Rattle.machine.specs.declared.quarantine.Sweep.the-variants.{Idle, Open}
+use Rattle.quarantine.specs.declared.run.Run.{Run}
+use Rattle.quarantine.specs.declared.sweep.Sweep.{Sweep}
+use Rattle.quarantine.specs.declared.sweep.Sweep.the-variants.{Idle, Open}
 use Rattle.machine.specs.declared.fault.MachineFault.{MachineFault}
 
 -- the number of compartments, and of the registers of each

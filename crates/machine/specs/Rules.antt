@@ -26,10 +26,10 @@ use Rattle.machine.specs.Calls.{Call}
 use Rattle.machine.specs.Faults.{from-memory}
 use Rattle.machine.specs.Model.{Fixed, State, Effect, denied, accepted, compartment-count, register-count, register-at, with-register, with-byte, with-capability, with-map, with-waiting, with-painted, with-passed, with-ended, with-shut}
 use Rattle.machine.specs.Runs.{begins-at, in-runs, most-runs}
-use Rattle.machine.specs.declared.quarantine.QuarantineFault.the-variants as Q
-use Rattle.machine.specs.declared.quarantine.Run.{Run}
-use Rattle.machine.specs.declared.quarantine.Sweep.{Sweep}
-use Rattle.machine.specs.declared.quarantine.Sweep.the-variants.{Idle, Open}
+use Rattle.quarantine.specs.declared.fault.QuarantineFault.the-variants as Q
+use Rattle.quarantine.specs.declared.run.Run.{Run}
+use Rattle.quarantine.specs.declared.sweep.Sweep.{Sweep}
+use Rattle.quarantine.specs.declared.sweep.Sweep.the-variants.{Idle, Open}
 use Rattle.machine.specs.declared.fault.MachineFault.{MachineFault}
 use Rattle.machine.specs.declared.fault.MachineFault.the-variants.{BadNum, Empty, Perm, Bounds, Align, NoCap, NotWhole, Nothing, FullReg, Sizes, Quarantine, Allocator}
 

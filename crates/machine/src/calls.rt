@@ -1,5 +1,5 @@
 ghost use Rattle.machine.specs.Model.{Fixed, State};
-ghost use Rattle.machine.specs.declared.quarantine.Sweep.the-variants.{Idle as SweepIdle};
+ghost use Rattle.quarantine.specs.declared.sweep.Sweep.the-variants.{Idle as SweepIdle};
 ghost use lib.ListN.{length};
 ghost use mathlib.Core.List.{[]};
 use crate::checks::granule_at;

@@ -1,5 +1,5 @@
-use crate::quarantine::QuarantineFault;
 use allocator::fault::AllocatorFault;
+use quarantine::fault::QuarantineFault;
 
 // Why a machine denies a call; the faults of quarantine and allocator are held whole.
 #[derive(Clone, Copy)]

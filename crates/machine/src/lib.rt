@@ -6,6 +6,5 @@ pub mod compartment_machine;
 pub mod fault;
 pub mod machine;
 pub mod numbered;
-pub mod quarantine;
 pub mod registers;
 mod store;

@@ -1,28 +1,12 @@
 ghost use Rattle.denial.specs.Numbers.{number-of};
-ghost use Rattle.machine.specs.Faults.{from-memory, machine-denial, machine-layer, quarantine-denial};
+ghost use Rattle.machine.specs.Faults.{from-memory, machine-denial, machine-layer};
 ghost use Rattle.machine.specs.declared.fault.MachineFault.the-variants.{Allocator as AllocatorCase};
 ghost use mathlib.Core.Path.{_≡_};
 use crate::fault::MachineFault;
-use crate::quarantine::QuarantineFault;
 use allocator::fault::AllocatorFault;
 use denial::Denial;
 use denial::Layer;
 use memory::fault::MemoryFault;
-
-impl QuarantineFault {
-    pub fn denial(self) -> Denial
-        ensures { λ r. ⌜ r ≡ quarantine-denial self ⌝ }
-    {
-        match self {
-            QuarantineFault::Revoked => Denial::Revoked,
-            QuarantineFault::Freed => Denial::Freed,
-            QuarantineFault::QFull => Denial::QFull,
-            QuarantineFault::Open => Denial::Open,
-            QuarantineFault::NoSweep => Denial::NoSweep,
-            QuarantineFault::Idle => Denial::Idle,
-        }
-    }
-}
 
 impl MachineFault {
     pub fn denial(self) -> Denial
@@ -54,7 +38,7 @@ impl MachineFault {
         ensures { λ r. ⌜ r ≡ machine-layer self ⌝ }
     {
         match self {
-            MachineFault::Quarantine(_) => Layer::Quarantine,
+            MachineFault::Quarantine(fault) => fault.layer(),
             MachineFault::Allocator(fault) => fault.layer(),
             _ => Layer::Machine,
         }

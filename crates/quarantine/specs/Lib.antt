@@ -1,0 +1,4 @@
+pub mod Runs
+pub mod Sweeps
+pub mod Faults
+pub mod Kept
