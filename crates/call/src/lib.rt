@@ -1,14 +1,10 @@
-// The calls of compartments, and of the host: open, step and shut. Operands are any numbers: the machine checks them.
+// The calls that compartments make. Operands are any numbers: the machine checks them.
 #[derive(Clone, Copy)]
 pub enum Call {
     Grant {
         compartment: u32,
         register: u32,
         granules: u32,
-    },
-    Free {
-        compartment: u32,
-        register: u32,
     },
     Derive {
         compartment: u32,
@@ -51,9 +47,4 @@ pub enum Call {
         compartment: u32,
         register: u32,
     },
-    OpenSweep,
-    Step {
-        granules: u32,
-    },
-    Shut,
 }

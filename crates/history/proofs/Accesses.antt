@@ -2,8 +2,8 @@
 use Rattle.std.proofs.Common.{◌≡◌, ℕ, ◌<◌, ◌≤◌, Some, Ok, sym, ◌∙◌, subst, arith}
 use Rattle.authority.specs.Capabilities.{base_of, top_of}
 use Rattle.authority.specs.declared.capability.Capability.{Capability}
-use Rattle.rules.specs.Calls.{Call}
-use Rattle.rules.specs.Model.{Effect, Fixed, State, fresh_state, outcome, register_at}
+use Rattle.machine.specs.Calls.{Call}
+use Rattle.machine.specs.Model.{Effect, Fixed, State, fresh_state, outcome, register_at}
 use Rattle.history.specs.Histories.{after}
 use Rattle.history.specs.Ledgers.{Ledger, empty_ledger, slot}
 use Rattle.history.specs.Provenance.{Access, AccessesFollowProvenance, AllowsAll, Rightful, access_of, ledger}
@@ -50,4 +50,4 @@ module _ (K : Fixed) (s : State) (b : Ledger) (v : Inv K s b) where
   rightful u (v_shut p w) e n q = some_none (sym e)
 
 pub accesses_follow_provenance : AccessesFollowProvenance
-accesses_follow_provenance K h sized p rest x u a _ e q = rightful K (after K p) (ledger K p) (inv_run K p (fresh_state K) empty_ledger (inv_fresh K sized)) u (view K (after K p) x) e a q
+accesses_follow_provenance K p x u a sized e q = rightful K (after K p) (ledger K p) (inv_run K p (fresh_state K) empty_ledger (inv_fresh K sized)) u (view K (after K p) x) e a q

@@ -3,10 +3,10 @@ use Rattle.std.proofs.Common.{◌≡◌, ℕ, ◌-◌, ◌*◌, ◌/◌, Bool, t
 use Rattle.std.proofs.lemmas.Bool.{cond-true, cond-false}
 use Rattle.allocator.specs.Allocators.{allocating}
 use Rattle.allocator.specs.Maps.{free}
-use Rattle.rules.specs.Calls.{Call}
-use Rattle.rules.specs.Model.{Fixed, State, Effect, empty_registers, fresh_state, outcome, register_at, state_after}
-use Rattle.rules.specs.Rules.{granted, is_operand, is_register, perform, stepped, unless}
-use Rattle.registers.specs.declared.fault.MachineFault.TheVariants.{BadNum, Sizes}
+use Rattle.machine.specs.Calls.{Call}
+use Rattle.machine.specs.Model.{Fixed, State, Effect, empty_registers, fresh_state, outcome, register_at, state_after}
+use Rattle.machine.specs.Rules.{granted, is_operand, is_register, perform, stepped, unless}
+use Rattle.machine.specs.declared.fault.MachineFault.TheVariants.{BadNum, Sizes}
 use Rattle.quarantine.specs.declared.sweep.Sweep.TheVariants.{Idle}
 use Rattle.history.specs.Histories.{Outcome, Sized, after, outcomes, state_after_all}
 use Rattle.history.specs.Isolation.{Alike, Every, GivesApart, Group, GroupCannotInterfere, Indistinguishable, Line, calls_in, is_ours, is_struck, left, lines_left, other_outcomes, own_outcomes}
@@ -213,7 +213,7 @@ module _ (K L : Fixed) (al : Alike K L) where
   same_after q = after_alike q (fresh_state L) ∙ ap (λ (s : State). state_after_all K s q) fresh_alike
 
 pub group_cannot_interfere : GroupCannotInterfere
-group_cannot_interfere K h sized m p rest L q _ al gp gq h1 h2 =
+group_cannot_interfere m K L p q sized al gp gq h1 h2 =
     let e = left_alike K L al m q in
     let f = sym (same_after K L al q) in
     let r = same_here K m p q sized gp gq (h1 ∙ ap calls_in e) (h2 ∙ ap (own_outcomes m) e) in

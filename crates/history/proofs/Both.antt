@@ -7,8 +7,8 @@ use Rattle.authority.specs.Capabilities.{base_of, top_of}
 use Rattle.authority.specs.Images.{image_of, word_at}
 use Rattle.authority.specs.declared.capability.Capability.{Capability}
 use Rattle.memory.specs.Memories.{granule_at}
-use Rattle.rules.specs.Model.{Fixed, State, with_register, with_map, with_byte, with_capability, with_waiting, with_painted, with_passed, with_ended, with_shut}
-use Rattle.rules.specs.Runs.{in_runs, released_cells, survivor}
+use Rattle.machine.specs.Model.{Fixed, State, with_register, with_map, with_byte, with_capability, with_waiting, with_painted, with_passed, with_ended, with_shut}
+use Rattle.machine.specs.Runs.{in_runs, released_cells, survivor}
 use Rattle.quarantine.specs.declared.run.Run.{Run}
 use Rattle.history.specs.Isolation.{Group, Outside}
 use Rattle.history.specs.Ledgers.{Entry, Ledger, put_at, slot, with_entry, with_grant, with_granule}

@@ -10,10 +10,10 @@ use Rattle.authority.specs.Images.{word_at}
 use Rattle.authority.specs.Masks.{all_permissions}
 use Rattle.authority.specs.declared.capability.Capability.{Capability}
 use Rattle.memory.specs.Memories.{with_image}
-use Rattle.registers.specs.Answers.{length_of}
-use Rattle.rules.specs.Model.{Fixed, State, with_register, with_map, with_byte, with_capability, with_waiting, with_painted, with_passed, with_ended, with_shut}
-use Rattle.rules.specs.Rules.{is_revoked, run_under}
-use Rattle.rules.specs.Runs.{begins_at, in_runs, survivor, swept_tags, released_cells}
+use Rattle.machine.specs.Answers.{length_of}
+use Rattle.machine.specs.Model.{Fixed, State, with_register, with_map, with_byte, with_capability, with_waiting, with_painted, with_passed, with_ended, with_shut}
+use Rattle.machine.specs.Rules.{is_revoked, run_under}
+use Rattle.machine.specs.Runs.{begins_at, in_runs, survivor, swept_tags, released_cells}
 use Rattle.quarantine.specs.declared.run.Run.{Run}
 use Rattle.quarantine.specs.declared.sweep.Sweep.{Sweep}
 use Rattle.quarantine.specs.declared.sweep.Sweep.TheVariants.{Idle, Open}

@@ -3,8 +3,8 @@ use Rattle.std.proofs.Common.{◌≡◌, ℕ, ◌+◌, ◌-◌, ◌*◌, ◌/◌
 use Rattle.std.proofs.lemmas.Bool.{cases_Bool, cond-false, ne_eqb}
 use Rattle.authority.specs.Capabilities.{base_of, top_of}
 use Rattle.authority.specs.declared.capability.Capability.{Capability}
-use Rattle.rules.specs.Calls.{Call}
-use Rattle.rules.specs.Model.{Fixed, State, Effect, outcome, state_after, with_register, with_byte, with_capability}
+use Rattle.machine.specs.Calls.{Call}
+use Rattle.machine.specs.Model.{Fixed, State, Effect, outcome, state_after, with_register, with_byte, with_capability}
 use Rattle.history.specs.Isolation.{Group, GivesApart, Outside, is_struck}
 use Rattle.history.specs.Ledgers.{Entry, Grant, Ledger, loaded, note, slot, stored, with_entry, with_granule}
 use Rattle.history.proofs.Base.{no_yes, within, within_true}

@@ -5,8 +5,8 @@ use Rattle.authority.specs.Capabilities.{base_of, capability_of, top_of}
 use Rattle.authority.specs.Images.{word_at}
 use Rattle.authority.specs.Masks.{all_permissions}
 use Rattle.authority.specs.declared.capability.Capability.{Capability}
-use Rattle.rules.specs.Model.{Fixed, State}
-use Rattle.rules.specs.Runs.{begins_at, in_runs}
+use Rattle.machine.specs.Model.{Fixed, State}
+use Rattle.machine.specs.Runs.{begins_at, in_runs}
 use Rattle.quarantine.specs.declared.run.Run.{Run}
 use Rattle.quarantine.specs.declared.sweep.Sweep.TheVariants.{Idle, Open}
 use Rattle.history.specs.Histories.{Sized}

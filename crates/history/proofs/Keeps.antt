@@ -15,14 +15,14 @@ use Rattle.memory.specs.Memories.{byte_read, capability_stored, change_at, granu
 use Rattle.memory.specs.declared.fault.MemoryFault.{MemoryFault}
 use Rattle.memory.specs.declared.fault.MemoryFault.TheVariants as T
 use Rattle.memory.specs.declared.granule.Granule.{Granule}
-use Rattle.registers.specs.Answers.{granule_answer, length_of}
-use Rattle.rules.specs.Calls.{Call}
-use Rattle.registers.specs.Faults.{from_memory}
-use Rattle.rules.specs.Model.{Fixed, State, Effect, denied, accepted, outcome, state_after, register_at, with_register, with_map, with_byte, with_capability, with_waiting, with_passed}
-use Rattle.rules.specs.Rules.{perform, unless, held, vacant, permitted, by_memory, at_granule, granted, narrowed, loaded, wanted, is_revoked, is_whole, run_under, open_rule, stepped, shut_rule, is_register, is_operand}
-use Rattle.rules.specs.Runs.{begins_at, most_runs}
-use Rattle.registers.specs.declared.fault.MachineFault.{MachineFault}
-use Rattle.registers.specs.declared.fault.MachineFault.TheVariants as F
+use Rattle.machine.specs.Answers.{granule_answer, length_of}
+use Rattle.machine.specs.Calls.{Call}
+use Rattle.machine.specs.Faults.{from_memory}
+use Rattle.machine.specs.Model.{Fixed, State, Effect, denied, accepted, outcome, state_after, register_at, with_register, with_map, with_byte, with_capability, with_waiting, with_passed}
+use Rattle.machine.specs.Rules.{perform, unless, held, vacant, permitted, by_memory, at_granule, granted, narrowed, loaded, wanted, is_revoked, is_whole, run_under, open_rule, stepped, shut_rule, is_register, is_operand}
+use Rattle.machine.specs.Runs.{begins_at, most_runs}
+use Rattle.machine.specs.declared.fault.MachineFault.{MachineFault}
+use Rattle.machine.specs.declared.fault.MachineFault.TheVariants as F
 use Rattle.quarantine.specs.declared.fault.QuarantineFault.TheVariants as Q
 use Rattle.quarantine.specs.declared.run.Run.{Run}
 use Rattle.quarantine.specs.declared.sweep.Sweep.{Sweep}

@@ -14,12 +14,12 @@ use Rattle.authority.specs.declared.capability.Capability.{Capability}
 use Rattle.authority.specs.declared.permissions.Permissions.{Permissions}
 use Rattle.authority.proofs.Making.{image_reads_back}
 use Rattle.memory.specs.Memories.{wipe_answer, with_image}
-use Rattle.rules.specs.Model.{State, empty_compartment, empty_registers, register_at, register_in, with_register_in}
-use Rattle.rules.specs.Rules.{derived, derived_with, wanted}
-use Rattle.rules.specs.Runs.{in_run, in_runs, survivor, emptied_compartment, emptied_registers, swept_tag, swept_tags, wiped_bytes, wiped_tags, released_cells}
-use Rattle.registers.specs.declared.compartment.Compartment.{Compartment}
+use Rattle.machine.specs.Model.{State, empty_compartment, empty_registers, register_at, register_in, with_register_in}
+use Rattle.machine.specs.Rules.{derived, derived_with, wanted}
+use Rattle.machine.specs.Runs.{in_run, in_runs, survivor, emptied_compartment, emptied_registers, swept_tag, swept_tags, wiped_bytes, wiped_tags, released_cells}
+use Rattle.machine.specs.declared.compartment.Compartment.{Compartment}
 use Rattle.quarantine.specs.declared.run.Run.{Run}
-use Rattle.registers.specs.declared.Registers.{Registers}
+use Rattle.machine.specs.declared.registers.Registers.{Registers}
 use Rattle.history.specs.Ledgers.{slot}
 use Rattle.history.specs.Provenance.{LiesWithin}
 use Rattle.history.proofs.Base.{Among, within, within_true, none_at, no_yes, some_none}

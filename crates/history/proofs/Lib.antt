@@ -15,4 +15,3 @@ mod Core
 mod Both
 mod Keeps
 mod Apart
-mod Running

@@ -7,7 +7,7 @@ use Rattle.allocator.specs.Maps.{Cell, FreeAt, free, first, rest, run_length, ru
 use Rattle.authority.specs.Capabilities.{base_of, capability_of, top_of}
 use Rattle.authority.specs.Masks.{all_permissions}
 use Rattle.authority.specs.declared.capability.Capability.{Capability}
-use Rattle.rules.specs.Runs.{begins_at, in_run, in_runs}
+use Rattle.machine.specs.Runs.{begins_at, in_run, in_runs}
 use Rattle.quarantine.specs.declared.run.Run.{Run}
 use Rattle.history.specs.Ledgers.{Entry, Grant, put_at}
 use Rattle.history.proofs.Base.{Among, no_yes, some_same, within, within_true}

@@ -6,10 +6,10 @@ use Rattle.std.proofs.lemmas.Bool.Decides.{nat_tests}
 use Rattle.allocator.specs.Maps.{Cell, first, free, rest, FreeAt}
 use Rattle.authority.specs.Capabilities.{base_of, top_of}
 use Rattle.authority.specs.declared.capability.Capability.{Capability}
-use Rattle.rules.specs.Calls.{Call}
-use Rattle.rules.specs.Model.{Effect, Fixed, State, accepted, denied, fresh_state, outcome, state_after, with_ended}
-use Rattle.rules.specs.Rules.{perform}
-use Rattle.rules.specs.Runs.{in_run, in_runs}
+use Rattle.machine.specs.Calls.{Call}
+use Rattle.machine.specs.Model.{Effect, Fixed, State, accepted, denied, fresh_state, outcome, state_after, with_ended}
+use Rattle.machine.specs.Rules.{perform}
+use Rattle.machine.specs.Runs.{in_run, in_runs}
 use Rattle.quarantine.specs.declared.run.Run.{Run}
 use Rattle.quarantine.specs.declared.sweep.Sweep.{Sweep}
 use Rattle.quarantine.specs.declared.sweep.Sweep.TheVariants.{Idle, Open}
@@ -505,7 +505,4 @@ freed_by_sweep K p x g sz t f =
     }
 
 pub memory_returns : MemoryReturnsWhenTheSweepEnds
-memory_returns K h sized = record {
-  returns = λ p q rest r a _. returned K p q r a sized;
-  only = λ p rest x g _. freed_by_sweep K p x g sized;
-}
+memory_returns = (returned, freed_by_sweep)

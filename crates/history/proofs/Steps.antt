@@ -6,10 +6,10 @@ use Rattle.allocator.specs.Maps.{free, run_of}
 use Rattle.authority.specs.Capabilities.{base_of, top_of, capability_of}
 use Rattle.authority.specs.Masks.{all_permissions}
 use Rattle.authority.specs.declared.capability.Capability.{Capability}
-use Rattle.rules.specs.Calls.{Call}
-use Rattle.rules.specs.Model.{Effect, Fixed, State, fresh_state, outcome, register_at, state_after, with_capability, with_map, with_passed, with_register}
-use Rattle.rules.specs.Rules.{derived}
-use Rattle.rules.specs.Runs.{in_runs}
+use Rattle.machine.specs.Calls.{Call}
+use Rattle.machine.specs.Model.{Effect, Fixed, State, fresh_state, outcome, register_at, state_after, with_capability, with_map, with_passed, with_register}
+use Rattle.machine.specs.Rules.{derived}
+use Rattle.machine.specs.Runs.{in_runs}
 use Rattle.history.specs.Histories.{Sized, outcomes, state_after_all}
 use Rattle.history.specs.Ledgers.{Entry, Ledger, derived_entry, empty_ledger, granted, loaded, note, noted_all, slot, stored, with_entry, with_provenance}
 use Rattle.history.proofs.Base.{no_yes, none_at, some_none, some_same}

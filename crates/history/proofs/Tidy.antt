@@ -6,10 +6,10 @@ use Rattle.allocator.specs.Maps.{Cell, free, first, rest, run_of}
 use Rattle.authority.specs.Capabilities.{base_of, top_of}
 use Rattle.authority.specs.Images.{word_at}
 use Rattle.authority.specs.declared.capability.Capability.{Capability}
-use Rattle.rules.specs.Calls.{Call}
-use Rattle.rules.specs.Model.{Fixed, State, Effect, outcome, state_after, with_register, with_register_in, with_map, with_byte, with_capability, with_passed, with_ended}
-use Rattle.rules.specs.Rules.{derived}
-use Rattle.rules.specs.Runs.{in_runs, survivor}
+use Rattle.machine.specs.Calls.{Call}
+use Rattle.machine.specs.Model.{Fixed, State, Effect, outcome, state_after, with_register, with_register_in, with_map, with_byte, with_capability, with_passed, with_ended}
+use Rattle.machine.specs.Rules.{derived}
+use Rattle.machine.specs.Runs.{in_runs, survivor}
 use Rattle.quarantine.specs.declared.run.Run.{Run}
 use Rattle.history.specs.Isolation.{Group, GivesApart}
 use Rattle.history.specs.Ledgers.{Entry, Grant, Ledger, derived_entry, granted, loaded, note, slot, stored, with_entry, with_grant, with_granule, with_provenance}

@@ -15,13 +15,13 @@ use Rattle.memory.specs.Memories.{byte_read, capability_stored, change_at, granu
 use Rattle.memory.specs.declared.fault.MemoryFault.{MemoryFault}
 use Rattle.memory.specs.declared.fault.MemoryFault.TheVariants as T
 use Rattle.memory.specs.declared.granule.Granule.{Granule}
-use Rattle.registers.specs.Answers.{granule_answer, length_of}
-use Rattle.rules.specs.Calls.{Call}
-use Rattle.rules.specs.Model.{Fixed, State, Effect, denied, accepted, register_at, with_register, with_map, with_byte, with_capability, with_waiting, with_painted, with_passed, with_ended, with_shut}
-use Rattle.rules.specs.Rules.{perform, unless, held, vacant, permitted, by_memory, at_granule, granted, narrowed, loaded, derived, derived_with, is_revoked, is_whole, run_under, open_rule, stepped, shut_rule, is_register, is_operand}
-use Rattle.rules.specs.Runs.{begins_at}
-use Rattle.registers.specs.declared.fault.MachineFault.{MachineFault}
-use Rattle.registers.specs.declared.fault.MachineFault.TheVariants.{Align, Bounds, NoCap, Perm}
+use Rattle.machine.specs.Answers.{granule_answer, length_of}
+use Rattle.machine.specs.Calls.{Call}
+use Rattle.machine.specs.Model.{Fixed, State, Effect, denied, accepted, register_at, with_register, with_map, with_byte, with_capability, with_waiting, with_painted, with_passed, with_ended, with_shut}
+use Rattle.machine.specs.Rules.{perform, unless, held, vacant, permitted, by_memory, at_granule, granted, narrowed, loaded, derived, derived_with, is_revoked, is_whole, run_under, open_rule, stepped, shut_rule, is_register, is_operand}
+use Rattle.machine.specs.Runs.{begins_at}
+use Rattle.machine.specs.declared.fault.MachineFault.{MachineFault}
+use Rattle.machine.specs.declared.fault.MachineFault.TheVariants.{Align, Bounds, NoCap, Perm}
 use Rattle.quarantine.specs.declared.sweep.Sweep.{Sweep}
 use Rattle.quarantine.specs.declared.sweep.Sweep.TheVariants.{Idle, Open}
 use Rattle.history.proofs.Base.{err_ok, ok_same}

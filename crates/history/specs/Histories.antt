@@ -1,9 +1,9 @@
 -- Histories: lists of calls from a fresh machine on, with their outcomes.
 use Rattle.std.specs.Prelude.{ℕ, ◌≤◌, List, [], ◌∷◌, Result}
-use Rattle.rules.specs.Calls.{Call}
-use Rattle.rules.specs.Model.{Fixed, State, fresh_state, outcome, state_after}
-use Rattle.rules.specs.Rules.{perform}
-use Rattle.registers.specs.declared.fault.MachineFault.{MachineFault}
+use Rattle.machine.specs.Calls.{Call}
+use Rattle.machine.specs.Model.{Fixed, State, fresh_state, outcome, state_after}
+use Rattle.machine.specs.Rules.{perform}
+use Rattle.machine.specs.declared.fault.MachineFault.{MachineFault}
 use Rattle.memory.specs.Memories.{most_granules}
 
 -- an answer, or the fault of a denial

@@ -1,7 +1,7 @@
 -- A group of compartments cannot interfere with the others.
-use Rattle.std.specs.Prelude.{◌≡◌, ℕ, ◌/◌, ◌<◌, Bool, true, false, cond, List, [], ◌∷◌, ◌++◌, Some, slice_index, slice_index_or}
-use Rattle.rules.specs.Calls.{Call}
-use Rattle.rules.specs.Model.{Fixed, compartment_count, register_at, register_count}
+use Rattle.std.specs.Prelude.{◌≡◌, ℕ, ◌/◌, ◌<◌, Bool, true, false, cond, List, [], ◌∷◌, Some, slice_index, slice_index_or}
+use Rattle.machine.specs.Calls.{Call}
+use Rattle.machine.specs.Model.{Fixed, compartment_count, register_at, register_count}
 use Rattle.history.specs.Histories.{Outcome, Sized, after, outcomes_of}
 use Rattle.history.specs.Ledgers.{Grant, Ledger}
 use Rattle.history.specs.Provenance.{ledger}
@@ -106,13 +106,9 @@ pub record Indistinguishable (m : Group) (K L : Fixed) (p q : List Call) : Type 
   pub bytes : (i : ℕ) → Outside m (ledger K p) i → slice_index (after K p).bytes i ≡ slice_index (after L q).bytes i
   pub tags : (i : ℕ) → Outside m (ledger K p) i → slice_index_or (after K p).tags (i / 16) false ≡ slice_index_or (after L q).tags (i / 16) false
 
--- of a history, at each moment of it: any history of a machine made alike, with no give between group and others in either, which agrees with it
--- once the group's own calls are struck out, and in which the group's grants and frees have equal outcomes, looks the same to the others
-abbrev pub GroupCannotInterfereIn : Fixed → List Call → Type 0
-GroupCannotInterfereIn K h =
-    (m : Group) (p rest : List Call) (L : Fixed) (q : List Call) → h ≡ p ++ rest → Alike K L → Every (GivesApart m) p → Every (GivesApart m) q →
-    calls_in (left m K p) ≡ calls_in (left m L q) → own_outcomes m (left m K p) ≡ own_outcomes m (left m L q) → Indistinguishable m K L p q
-
--- of every history of every machine
+-- two histories of machines made alike, with no give between group and others, which agree once the group's own calls are struck out, and in
+-- which the group's grants and frees have equal outcomes, look the same to the others
 abbrev pub GroupCannotInterfere : Type 0
-GroupCannotInterfere = (K : Fixed) (h : List Call) → Sized K → GroupCannotInterfereIn K h
+GroupCannotInterfere =
+    (m : Group) (K L : Fixed) (p q : List Call) → Sized K → Alike K L → Every (GivesApart m) p → Every (GivesApart m) q →
+    calls_in (left m K p) ≡ calls_in (left m L q) → own_outcomes m (left m K p) ≡ own_outcomes m (left m L q) → Indistinguishable m K L p q

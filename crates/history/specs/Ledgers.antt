@@ -3,9 +3,9 @@ use Rattle.std.specs.Prelude.{ℕ, suc, ◌+◌, ◌*◌, ◌/◌, Bool, cond, �
 use Rattle.authority.specs.Capabilities.{base_of, capability_of, top_of}
 use Rattle.authority.specs.Masks.{all_permissions}
 use Rattle.authority.specs.declared.capability.Capability.{Capability}
-use Rattle.rules.specs.Calls.{Call}
-use Rattle.rules.specs.Model.{register_count}
-use Rattle.rules.specs.Rules.{derived}
+use Rattle.machine.specs.Calls.{Call}
+use Rattle.machine.specs.Model.{register_count}
+use Rattle.machine.specs.Rules.{derived}
 use Rattle.history.specs.Histories.{Outcome}
 
 -- a capability with its provenance: the number of the grant that it descends from

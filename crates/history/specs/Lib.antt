@@ -3,4 +3,3 @@ pub mod Ledgers
 pub mod Provenance
 pub mod Isolation
 pub mod Release
-pub mod Facts

@@ -1,12 +1,12 @@
 -- Accesses follow provenance.
-use Rattle.std.specs.Prelude.{◌≡◌, ℕ, ◌+◌, ◌<◌, ◌≤◌, true, List, [], ◌∷◌, ◌++◌, Some, None, Ok, Option}
+use Rattle.std.specs.Prelude.{◌≡◌, ℕ, ◌+◌, ◌<◌, ◌≤◌, true, List, [], ◌∷◌, Some, None, Ok, Option}
 use Rattle.authority.specs.Capabilities.{base_of, meet_authority, permissions_of, top_of}
 use Rattle.authority.specs.Masks.{allows}
 use Rattle.authority.specs.declared.capability.Capability.{Capability}
 use Rattle.authority.specs.declared.permission.Permission.{Permission}
 use Rattle.authority.specs.declared.permission.Permission.TheVariants as P
-use Rattle.rules.specs.Calls.{Call}
-use Rattle.rules.specs.Model.{Fixed, State, register_at}
+use Rattle.machine.specs.Calls.{Call}
+use Rattle.machine.specs.Model.{Fixed, State, register_at}
 use Rattle.history.specs.Histories.{Sized, after, answer_to, outcomes_of}
 use Rattle.history.specs.Ledgers.{Entry, Grant, Ledger, empty_ledger, noted_all, slot}
 
@@ -59,11 +59,7 @@ pub record Rightful (s : State) (b : Ledger) (u : Access) : Type 0 where
   pub inside : (base_of capability ≤ u.low capability) × (u.high capability ≤ top_of capability)
   pub permitted : AllowsAll capability u.needs
 
--- of a history: each of its loads, stores and frees that is accepted is rightful
-abbrev pub AccessesFollowProvenanceIn : Fixed → List Call → Type 0
-AccessesFollowProvenanceIn K h =
-    (p rest : List Call) (x : Call) (u : Access) (a : ℕ) → h ≡ p ++ (x ∷ rest) → access_of x ≡ Some u → answer_to K p x ≡ Ok a → Rightful (after K p) (ledger K p) u
-
--- of every history of every machine
+-- every accepted load, store or free is rightful
 abbrev pub AccessesFollowProvenance : Type 0
-AccessesFollowProvenance = (K : Fixed) (h : List Call) → Sized K → AccessesFollowProvenanceIn K h
+AccessesFollowProvenance =
+    (K : Fixed) (p : List Call) (x : Call) (u : Access) (a : ℕ) → Sized K → access_of x ≡ Some u → answer_to K p x ≡ Ok a → Rightful (after K p) (ledger K p) u

@@ -1,8 +1,8 @@
 -- Memory returns exactly when the sweep ends.
 use Rattle.std.specs.Prelude.{◌≡◌, ℕ, ◌+◌, ◌/◌, ◌<◌, ◌≤◌, List, [], ◌∷◌, ◌++◌, Ok, Err, slice_index_or}
 use Rattle.allocator.specs.Maps.{free, run_length}
-use Rattle.rules.specs.Calls.{Call}
-use Rattle.rules.specs.Model.{Fixed, State}
+use Rattle.machine.specs.Calls.{Call}
+use Rattle.machine.specs.Model.{Fixed, State}
 use Rattle.quarantine.specs.declared.run.Run.{Run}
 use Rattle.history.specs.Histories.{Outcome, Sized, after, answer_to, outcomes}
 
@@ -117,12 +117,8 @@ pub record FreedBySweep (K : Fixed) (p : List Call) (x : Call) (g : ℕ) : Type 
   pub waited : Waits K before run
   pub inside : InRun run g
 
--- of a history: what waits at one of its opens returns with the end of that sweep, and nothing becomes free in another way
-pub record MemoryReturnsIn (K : Fixed) (h : List Call) : Type 0 where
-  pub returns : (p q rest : List Call) (r : Run) (a : ℕ) → h ≡ p ++ (Call.OpenSweep ∷ (q ++ rest)) → answer_to K p Call.OpenSweep ≡ Ok a → Waits K p r
-      → NoShuts q (outcomes_since K p q) → granules_since K p q < K.memory_granules → Returns K p q r
-  pub only : (p rest : List Call) (x : Call) (g : ℕ) → h ≡ p ++ (x ∷ rest) → (IsFree (after K p) g → ⊥) → IsFree (after K (p ++ (x ∷ []))) g → FreedBySweep K p x g
-
--- of every history of every machine
 abbrev pub MemoryReturnsWhenTheSweepEnds : Type 0
-MemoryReturnsWhenTheSweepEnds = (K : Fixed) (h : List Call) → Sized K → MemoryReturnsIn K h
+MemoryReturnsWhenTheSweepEnds =
+    ((K : Fixed) (p q : List Call) (r : Run) (a : ℕ) → Sized K → answer_to K p Call.OpenSweep ≡ Ok a → Waits K p r →
+    NoShuts q (outcomes_since K p q) → granules_since K p q < K.memory_granules → Returns K p q r)
+    × ((K : Fixed) (p : List Call) (x : Call) (g : ℕ) → Sized K → (IsFree (after K p) g → ⊥) → IsFree (after K (p ++ (x ∷ []))) g → FreedBySweep K p x g)

@@ -1,10 +1,7 @@
-// Running a history of calls, and the theorems over every history of a fresh machine. The contract of `run_history` has them of the
-// history that it runs; of the other functions each has one of them, of every history, and does nothing.
+// The theorems over every history of a fresh machine. Each function's contract is one of them; the functions do nothing.
 ghost use Rattle.history.specs.Isolation.{GroupCannotInterfere};
 ghost use Rattle.history.specs.Provenance.{AccessesFollowProvenance};
 ghost use Rattle.history.specs.Release.{MemoryReturnsWhenTheSweepEnds};
-
-pub mod run;
 
 // Every accepted load, store or free goes through a capability that lies within the latest grant of the bytes touched.
 pub fn accesses_follow_provenance()

@@ -1,4 +1,10 @@
-// The machine: compartments with registers of capabilities over any tagged memory and any allocator, with quarantine and sweep.
+// The machine: compartments with registers of capabilities over any tagged memory and any allocator.
 pub mod calls;
+mod checks;
+pub mod compartment;
+pub mod compartment_machine;
+pub mod fault;
 pub mod machine;
+pub mod numbered;
+pub mod registers;
 mod store;

@@ -1,6 +1,6 @@
 -- The model of the quarantine: which runs are painted, which wait, and the sweep; and what each call makes of them.
-use Rattle.std.specs.Prelude.{ℕ, ◌+◌, ◌-◌, Bool, true, false, cond, List, [], ◌∷◌, ◌++◌, length, take, drop, Ok, Err, Result, nat_le, nat_lt}
-use Rattle.quarantine.specs.Runs.{begins_at, in_runs, most_runs}
+use Rattle.std.specs.Prelude.{ℕ, ◌+◌, ◌-◌, Bool, cond, List, [], ◌∷◌, ◌++◌, length, take, drop, Ok, Err, Result, nat_le, nat_lt}
+use Rattle.quarantine.specs.Runs.{begins_at, most_runs}
 use Rattle.quarantine.specs.declared.Quarantine.{Quarantine}
 use Rattle.quarantine.specs.declared.fault.QuarantineFault.{QuarantineFault}
 use Rattle.quarantine.specs.declared.fault.QuarantineFault.TheVariants as F
@@ -18,18 +18,6 @@ painted_of q = take q.counts.painted q.runs
 
 abbrev pub waiting_of : Quarantine → List Run
 waiting_of q = drop q.counts.painted (take q.counts.held q.runs)
-
-abbrev pub sweep_of : Quarantine → Sweep
-sweep_of q = q.sweep
-
--- a base at granule g is revoked: a sweep is open, and g is painted
-abbrev pub is_revoked : Sweep → List Run → ℕ → Bool
-is_revoked Idle painted g = false
-is_revoked (Open p) painted g = in_runs painted g
-
--- loading a capability whose base is at granule g: REVOKED if a sweep is open and g is painted
-abbrev pub load_answer : Sweep → List Run → ℕ → Result Unit QuarantineFault
-load_answer sweep painted g = cond (is_revoked sweep painted g) (Err F.Revoked) (Ok tt)
 
 -- freeing a run: FREED if a waiting run begins where it does, QFULL if 64 are held
 abbrev pub join_answer : List Run → List Run → ℕ → Result Unit QuarantineFault
@@ -98,24 +86,3 @@ abbrev pub after_turn : HostCall → ℕ → Kept → Kept
 after_turn H.Open all s = after_open s.sweep s
 after_turn (H.Step k) all s = after_step s.sweep k all s
 after_turn H.Shut all s = after_shut s.sweep s
-
--- the number that a call of the host's answers: painted runs, or the granules left
-abbrev pub number_in : Turn → ℕ
-number_in (T.Opened n) = n
-number_in (T.Passing p n) = n
-number_in (T.Ending p) = 0
-number_in (T.Shut n) = n
-
--- the granule that a step begins at
-abbrev pub from_in : Turn → ℕ
-from_in (T.Opened n) = 0
-from_in (T.Passing p n) = p
-from_in (T.Ending p) = p
-from_in (T.Shut n) = 0
-
--- it is the step that ends the sweep
-abbrev pub is_ending : Turn → Bool
-is_ending (T.Opened n) = false
-is_ending (T.Passing p n) = false
-is_ending (T.Ending p) = true
-is_ending (T.Shut n) = false

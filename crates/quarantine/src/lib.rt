@@ -18,7 +18,6 @@ mod shade;
 pub mod sweep;
 #[cfg(test)]
 mod tests;
-mod turn;
 mod turns;
 
 // `runs` holds the painted runs and then the waiting runs, each in the order freed.

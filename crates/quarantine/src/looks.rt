@@ -1,7 +1,7 @@
 // A new quarantine, and what the quarantine answers without a change.
-ghost use Rattle.std.specs.Prelude.{◌≡◌, ◌+◌, ◌<◌, ◌≤◌, [], length, take, Ok, Err};
+ghost use Rattle.std.specs.Prelude.{◌≡◌, ◌+◌, ◌<◌, [], length, take, Ok, Err};
 ghost use Rattle.bits.specs.Bits.{bits_of};
-ghost use Rattle.quarantine.specs.Kept.{join_answer, load_answer, painted_of, sweep_of, waiting_of};
+ghost use Rattle.quarantine.specs.Kept.{join_answer, painted_of, waiting_of};
 ghost use Rattle.quarantine.specs.Runs.{begins_at, in_runs, shadow_of};
 ghost use Rattle.quarantine.specs.declared.sweep.Sweep.TheVariants.{Idle};
 ghost use Rattle.std.specs.List.{slice_get};
@@ -20,7 +20,7 @@ impl Quarantine {
     pub fn new() -> Quarantine
         ensures painted { painted_of result ≡ [] }
         ensures waiting { waiting_of result ≡ [] }
-        ensures sweep { sweep_of result ≡ Idle }
+        ensures sweep { result.sweep ≡ Idle }
     {
         Quarantine {
             runs: [Run {
@@ -35,16 +35,14 @@ impl Quarantine {
 
     // How many runs wait.
     pub(crate) fn waiting_count(&self) -> usize
-        ensures few { result ≤ 64 }
-        ensures value { result ≡ length (waiting_of self.now) }
+        ensures { result ≡ length (waiting_of self.now) }
     {
         self.counts.held - self.counts.painted
     }
 
     // How many runs are painted.
     pub(crate) fn painted_count(&self) -> usize
-        ensures few { result ≤ 64 }
-        ensures value { result ≡ length (painted_of self.now) }
+        ensures { result ≡ length (painted_of self.now) }
     {
         self.counts.painted
     }
@@ -79,21 +77,6 @@ impl Quarantine {
             get(&self.shadow, granule)
         } else {
             one_holds(&self.runs[..self.counts.painted], granule)
-        }
-    }
-
-    // Whether a capability whose base is at a granule may be loaded: not if a sweep is open and the granule is painted.
-    pub fn check_load(&self, granule: usize) -> Result<(), QuarantineFault>
-        ensures { result ≡ load_answer (sweep_of self.now) (painted_of self.now) granule }
-    {
-        match self.sweep {
-            Sweep::Idle => Ok(()),
-            Sweep::Open { .. } => {
-                if self.is_painted(granule) {
-                    return Err(QuarantineFault::Revoked);
-                }
-                Ok(())
-            }
         }
     }
 

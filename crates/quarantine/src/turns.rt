@@ -1,7 +1,7 @@
 // What changes the quarantine: a freed run, the host's calls, and the end of a sweep.
-ghost use Rattle.std.specs.Prelude.{◌≡◌, ◌+◌, ◌≤◌, [], ◌∷◌, ◌++◌, Ok, Err};
-ghost use Rattle.quarantine.specs.Kept.{after_turn, join_answer, kept_of, number_in, painted_of, sweep_of, turn_answer, waiting_of, with_finished, with_opened, with_shut};
+ghost use Rattle.quarantine.specs.Kept.{after_turn, join_answer, kept_of, painted_of, turn_answer, waiting_of, with_finished, with_opened, with_shut};
 ghost use Rattle.quarantine.specs.declared.sweep.Sweep.TheVariants.{Idle};
+ghost use Rattle.std.specs.Prelude.{◌≡◌, [], ◌∷◌, ◌++◌, Ok, Err};
 
 use crate::Quarantine;
 use crate::fault::QuarantineFault;
@@ -16,7 +16,7 @@ impl Quarantine {
         ensures answer { result ≡ join_answer (waiting_of self.old) (painted_of self.old) run.start }
         ensures waiting { elim result [ Ok _ ↦ waiting_of self.new ≡ waiting_of self.old ++ (run ∷ []) | Err _ ↦ self.new ≡ self.old ] }
         ensures painted { painted_of self.new ≡ painted_of self.old }
-        ensures sweep { sweep_of self.new ≡ sweep_of self.old }
+        ensures sweep { self.new.sweep ≡ self.old.sweep }
     {
         self.check_join(run.start)?;
         self.runs[self.counts.held] = run;
@@ -47,7 +47,6 @@ impl Quarantine {
     pub fn turn(&mut self, call: HostCall, granules: usize) -> Result<Turn, QuarantineFault>
         ensures answer { result ≡ turn_answer call granules (kept_of self.old) }
         ensures kept { kept_of self.new ≡ after_turn call granules (kept_of self.old) }
-        ensures small { elim result [ Ok t ↦ number_in t ≤ 64 + granules | Err _ ↦ Unit {0} ] }
         ensures denied { elim result [ Ok _ ↦ Unit {0} | Err _ ↦ self.new ≡ self.old ] }
     {
         let waiting = self.waiting_count();

@@ -16,7 +16,7 @@ use Rattle.reader.specs.Calls.{name_of, kinds_of, greatest_of, operand_text, ope
 use Rattle.reader.specs.Lines.{split, Begins}
 use Rattle.reader.proofs.Numbers.{own, decimal_once}
 use Rattle.reader.proofs.Spelling.{below_at, same_list, letters_once}
-use Rattle.reader.proofs.Short.{list0, list1, list2, list3, list4, list6}
+use Rattle.reader.proofs.Short.{list2, list3, list4, list6}
 use Rattle.reader.proofs.Splits.{clean, Cleans, split_spaces}
 
 -- no word of a call has a space
@@ -40,7 +40,6 @@ clean_texts (k ∷ ks) (n ∷ ns) f = (clean_text k n f.0, clean_texts ks ns f.1
 
 clean_name : (v : Verb) → clean (name_of v) ≡ true
 clean_name V.Grant = refl
-clean_name V.Free = refl
 clean_name V.Derive = refl
 clean_name V.Getb = refl
 clean_name V.Putb = refl
@@ -48,9 +47,6 @@ clean_name V.Putc = refl
 clean_name V.Getc = refl
 clean_name V.Give = refl
 clean_name V.Drop = refl
-clean_name V.Open = refl
-clean_name V.Step = refl
-clean_name V.Shut = refl
 
 pub split_text : (line : List ℕ) (c : Call) → WritableCall c → line ≡ text_of c → split line ≡ words_of c
 split_text line c f e = ap split e ∙ split_spaces (name_of (verb_of c)) (operand_texts (kinds_of (verb_of c)) (operands_of c)) (clean_name (verb_of c)) (clean_texts (kinds_of (verb_of c)) (operands_of c) f)
@@ -59,20 +55,15 @@ split_text line c f e = ap split e ∙ split_spaces (name_of (verb_of c)) (opera
 abbrev named : List ℕ → Verb
 named bs =
     (cond (same_list bs (name_of V.Grant)) V.Grant
-    (cond (same_list bs (name_of V.Free)) V.Free
     (cond (same_list bs (name_of V.Derive)) V.Derive
     (cond (same_list bs (name_of V.Getb)) V.Getb
     (cond (same_list bs (name_of V.Putb)) V.Putb
     (cond (same_list bs (name_of V.Putc)) V.Putc
     (cond (same_list bs (name_of V.Getc)) V.Getc
-    (cond (same_list bs (name_of V.Give)) V.Give
-    (cond (same_list bs (name_of V.Drop)) V.Drop
-    (cond (same_list bs (name_of V.Open)) V.Open
-    (cond (same_list bs (name_of V.Step)) V.Step V.Shut)))))))))))
+    (cond (same_list bs (name_of V.Give)) V.Give V.Drop)))))))
 
 named_name : (v : Verb) → named (name_of v) ≡ v
 named_name V.Grant = refl
-named_name V.Free = refl
 named_name V.Derive = refl
 named_name V.Getb = refl
 named_name V.Putb = refl
@@ -80,9 +71,6 @@ named_name V.Putc = refl
 named_name V.Getc = refl
 named_name V.Give = refl
 named_name V.Drop = refl
-named_name V.Open = refl
-named_name V.Step = refl
-named_name V.Shut = refl
 
 same_verb : (u v : Verb) → name_of u ≡ name_of v → u ≡ v
 same_verb u v e = sym (named_name u) ∙ (ap named e ∙ named_name v)
@@ -144,7 +132,6 @@ filled (k ∷ ks) (suc i) (n ∷ ns) f =
 -- the call of a verb and operands
 abbrev pub call_from : Verb → List ℕ → Call
 call_from V.Grant ns = C.Grant (get_or ns 0 0) (get_or ns 1 0) (get_or ns 2 0)
-call_from V.Free ns = C.Free (get_or ns 0 0) (get_or ns 1 0)
 call_from V.Derive ns = C.Derive (get_or ns 0 0) (get_or ns 1 0) (get_or ns 2 0) (get_or ns 3 0) (get_or ns 4 0) (get_or ns 5 0)
 call_from V.Getb ns = C.Getb (get_or ns 0 0) (get_or ns 1 0) (get_or ns 2 0)
 call_from V.Putb ns = C.Putb (get_or ns 0 0) (get_or ns 1 0) (get_or ns 2 0) (get_or ns 3 0)
@@ -152,13 +139,9 @@ call_from V.Putc ns = C.Putc (get_or ns 0 0) (get_or ns 1 0) (get_or ns 2 0) (ge
 call_from V.Getc ns = C.Getc (get_or ns 0 0) (get_or ns 1 0) (get_or ns 2 0) (get_or ns 3 0)
 call_from V.Give ns = C.Give (get_or ns 0 0) (get_or ns 1 0) (get_or ns 2 0) (get_or ns 3 0)
 call_from V.Drop ns = C.Drop (get_or ns 0 0) (get_or ns 1 0)
-call_from V.Open ns = C.OpenSweep
-call_from V.Step ns = C.Step (get_or ns 0 0)
-call_from V.Shut ns = C.Shut
 
 from_verb : (v : Verb) (ns : List ℕ) → verb_of (call_from v ns) ≡ v
 from_verb V.Grant ns = refl
-from_verb V.Free ns = refl
 from_verb V.Derive ns = refl
 from_verb V.Getb ns = refl
 from_verb V.Putb ns = refl
@@ -166,13 +149,9 @@ from_verb V.Putc ns = refl
 from_verb V.Getc ns = refl
 from_verb V.Give ns = refl
 from_verb V.Drop ns = refl
-from_verb V.Open ns = refl
-from_verb V.Step ns = refl
-from_verb V.Shut ns = refl
 
 from_operands : (v : Verb) (ns : List ℕ) → length ns ≡ length (kinds_of v) → operands_of (call_from v ns) ≡ ns
 from_operands V.Grant ns l = sym (list3 ns _ _ _ l refl refl refl)
-from_operands V.Free ns l = sym (list2 ns _ _ l refl refl)
 from_operands V.Derive ns l = sym (list6 ns _ _ _ _ _ _ l refl refl refl refl refl refl)
 from_operands V.Getb ns l = sym (list3 ns _ _ _ l refl refl refl)
 from_operands V.Putb ns l = sym (list4 ns _ _ _ _ l refl refl refl refl)
@@ -180,14 +159,10 @@ from_operands V.Putc ns l = sym (list4 ns _ _ _ _ l refl refl refl refl)
 from_operands V.Getc ns l = sym (list4 ns _ _ _ _ l refl refl refl refl)
 from_operands V.Give ns l = sym (list4 ns _ _ _ _ l refl refl refl refl)
 from_operands V.Drop ns l = sym (list2 ns _ _ l refl refl)
-from_operands V.Open ns l = sym (list0 ns l)
-from_operands V.Step ns l = sym (list1 ns _ l refl)
-from_operands V.Shut ns l = sym (list0 ns l)
 
 -- a call is that of its verb and operands
 pub from_parts : (c : Call) → call_from (verb_of c) (operands_of c) ≡ c
 from_parts (C.Grant a b c) = refl
-from_parts (C.Free a b) = refl
 from_parts (C.Derive a b c d e f) = refl
 from_parts (C.Getb a b c) = refl
 from_parts (C.Putb a b c d) = refl
@@ -195,9 +170,6 @@ from_parts (C.Putc a b c d) = refl
 from_parts (C.Getc a b c d) = refl
 from_parts (C.Give a b c d) = refl
 from_parts (C.Drop a b) = refl
-from_parts C.OpenSweep = refl
-from_parts (C.Step k) = refl
-from_parts C.Shut = refl
 
 -- words that some call begins with
 pub begins_front : (v : Verb) (i : ℕ) (ns : List ℕ) → WithinKinds (take i (kinds_of v)) ns → Begins (name_of v ∷ operand_texts (take i (kinds_of v)) ns)

@@ -37,7 +37,7 @@ no_verb line w R e none =
     let l : length (split line) ≡ suc (length R) = ap length e in
     let x : Wrong (split line) 1 = record {
       counted = (omega arith, omega arith);
-      before = (C.Shut, words_of C.Shut, tt, refl);
+      before = (C.Drop 0 0, words_of (C.Drop 0 0), (omega arith, (omega arith, tt)), refl);
       here = λ h b. none (verb_of b.0) (let q : words_of b.0 ≡ w ∷ b.1 = b.3 ∙ ap (λ ws. take 1 ws ++ b.1) e in cc);
     } in
     (not_call line 1 x (omega arith), x)

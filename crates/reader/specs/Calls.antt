@@ -11,7 +11,6 @@ use Rattle.reader.specs.Texts.{letters_of}
 -- the word that names a verb
 abbrev pub name_of : Verb → List ℕ
 name_of V.Grant = codes "grant"
-name_of V.Free = codes "free"
 name_of V.Derive = codes "derive"
 name_of V.Getb = codes "getb"
 name_of V.Putb = codes "putb"
@@ -19,14 +18,10 @@ name_of V.Putc = codes "putc"
 name_of V.Getc = codes "getc"
 name_of V.Give = codes "give"
 name_of V.Drop = codes "drop"
-name_of V.Open = codes "open"
-name_of V.Step = codes "step"
-name_of V.Shut = codes "shut"
 
 -- what its operands are written as
 abbrev pub kinds_of : Verb → List Kind
 kinds_of V.Grant = Number ∷ Number ∷ Number ∷ []
-kinds_of V.Free = Number ∷ Number ∷ []
 kinds_of V.Derive = Number ∷ Number ∷ Number ∷ Number ∷ Number ∷ Permissions ∷ []
 kinds_of V.Getb = Number ∷ Number ∷ Number ∷ []
 kinds_of V.Putb = Number ∷ Number ∷ Number ∷ Number ∷ []
@@ -34,9 +29,6 @@ kinds_of V.Putc = Number ∷ Number ∷ Number ∷ Number ∷ []
 kinds_of V.Getc = Number ∷ Number ∷ Number ∷ Number ∷ []
 kinds_of V.Give = Number ∷ Number ∷ Number ∷ Number ∷ []
 kinds_of V.Drop = Number ∷ Number ∷ []
-kinds_of V.Open = []
-kinds_of V.Step = Number ∷ []
-kinds_of V.Shut = []
 
 -- the greatest operand of a kind
 abbrev pub greatest_of : Kind → ℕ
@@ -64,7 +56,6 @@ WithinKinds (k ∷ ks) (n ∷ ns) = (n ≤ greatest_of k) × WithinKinds ks ns
 -- a call's verb
 abbrev pub verb_of : Call → Verb
 verb_of (C.Grant c r n) = V.Grant
-verb_of (C.Free c r) = V.Free
 verb_of (C.Derive c r s lo len p) = V.Derive
 verb_of (C.Getb c r off) = V.Getb
 verb_of (C.Putb c r off v) = V.Putb
@@ -72,14 +63,10 @@ verb_of (C.Putc c r off s) = V.Putc
 verb_of (C.Getc c r off s) = V.Getc
 verb_of (C.Give c r d s) = V.Give
 verb_of (C.Drop c r) = V.Drop
-verb_of C.OpenSweep = V.Open
-verb_of (C.Step k) = V.Step
-verb_of C.Shut = V.Shut
 
 -- a call's operands
 abbrev pub operands_of : Call → List ℕ
 operands_of (C.Grant c r n) = c ∷ r ∷ n ∷ []
-operands_of (C.Free c r) = c ∷ r ∷ []
 operands_of (C.Derive c r s lo len p) = c ∷ r ∷ s ∷ lo ∷ len ∷ p ∷ []
 operands_of (C.Getb c r off) = c ∷ r ∷ off ∷ []
 operands_of (C.Putb c r off v) = c ∷ r ∷ off ∷ v ∷ []
@@ -87,9 +74,6 @@ operands_of (C.Putc c r off s) = c ∷ r ∷ off ∷ s ∷ []
 operands_of (C.Getc c r off s) = c ∷ r ∷ off ∷ s ∷ []
 operands_of (C.Give c r d s) = c ∷ r ∷ d ∷ s ∷ []
 operands_of (C.Drop c r) = c ∷ r ∷ []
-operands_of C.OpenSweep = []
-operands_of (C.Step k) = k ∷ []
-operands_of C.Shut = []
 
 -- a call that a line can write: each operand within its kind's range
 abbrev pub WritableCall : Call → Type 0

@@ -68,10 +68,6 @@ mod tests {
     fn reads_a_call(rt: HostRuntime) {
         assert_eq!(rt; wrong_word(b"drop 0 0"), 0);
         assert_eq!(rt; wrong_word(b"derive 0 1 2 16 65535 rwo"), 0);
-        assert_eq!(rt; wrong_word(b"free 1 2"), 0);
-        assert_eq!(rt; wrong_word(b"open"), 0);
-        assert_eq!(rt; wrong_word(b"step 16"), 0);
-        assert_eq!(rt; wrong_word(b"shut"), 0);
     }
 
     #[test]
@@ -80,17 +76,9 @@ mod tests {
     }
 
     #[test]
-    fn refuses_a_word_missing_or_too_many(rt: HostRuntime) {
-        assert_eq!(rt; wrong_word(b"step"), 2);
-        assert_eq!(rt; wrong_word(b"step 1 2"), 3);
-        assert_eq!(rt; wrong_word(b"open 1"), 2);
-    }
-
-    #[test]
     fn refuses_an_empty_word(rt: HostRuntime) {
         assert_eq!(rt; wrong_word(b"drop 0 0 "), 4);
         assert_eq!(rt; wrong_word(b"drop  0 0"), 2);
-        assert_eq!(rt; wrong_word(b"open "), 2);
         assert_eq!(rt; wrong_word(b" "), 1);
     }
 }

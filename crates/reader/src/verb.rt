@@ -10,7 +10,6 @@ use call::Call;
 #[derive(Clone, Copy)]
 pub enum Verb {
     Grant,
-    Free,
     Derive,
     Getb,
     Putb,
@@ -18,9 +17,6 @@ pub enum Verb {
     Getc,
     Give,
     Drop,
-    Open,
-    Step,
-    Shut,
 }
 
 // What an operand is written as.
@@ -31,9 +27,8 @@ pub enum Kind {
 }
 
 // Every verb.
-const VERBS: [Verb; 12] = [
+const VERBS: [Verb; 8] = [
     Verb::Grant,
-    Verb::Free,
     Verb::Derive,
     Verb::Getb,
     Verb::Putb,
@@ -41,9 +36,6 @@ const VERBS: [Verb; 12] = [
     Verb::Getc,
     Verb::Give,
     Verb::Drop,
-    Verb::Open,
-    Verb::Step,
-    Verb::Shut,
 ];
 
 impl Verb {
@@ -53,7 +45,6 @@ impl Verb {
     {
         match self {
             Verb::Grant => b"grant",
-            Verb::Free => b"free",
             Verb::Derive => b"derive",
             Verb::Getb => b"getb",
             Verb::Putb => b"putb",
@@ -61,9 +52,6 @@ impl Verb {
             Verb::Getc => b"getc",
             Verb::Give => b"give",
             Verb::Drop => b"drop",
-            Verb::Open => b"open",
-            Verb::Step => b"step",
-            Verb::Shut => b"shut",
         }
     }
 
@@ -79,9 +67,7 @@ impl Verb {
         ensures { result ≡ length (kinds_of self) }
     {
         match self {
-            Verb::Open | Verb::Shut => 0,
-            Verb::Step => 1,
-            Verb::Free | Verb::Drop => 2,
+            Verb::Drop => 2,
             Verb::Grant | Verb::Getb => 3,
             Verb::Putb | Verb::Putc | Verb::Getc | Verb::Give => 4,
             Verb::Derive => 6,
@@ -109,10 +95,6 @@ impl Verb {
                 compartment,
                 register,
                 granules: third,
-            },
-            Verb::Free => Call::Free {
-                compartment,
-                register,
             },
             Verb::Derive => Call::Derive {
                 compartment,
@@ -155,11 +137,6 @@ impl Verb {
                 compartment,
                 register,
             },
-            Verb::Open => Call::OpenSweep,
-            Verb::Step => Call::Step {
-                granules: operands[0],
-            },
-            Verb::Shut => Call::Shut,
         }
     }
 }

@@ -1,10 +1,14 @@
 // What a run of a script prints.
-use crate::machines::run_on_b;
+use allocator::quota::Quota;
+use denial::Layer;
+use machine::compartment_machine::CompartmentMachine;
+use machine::machine::Machine;
+use memory::flat::Flat;
+use next_fit::NextFit;
 use script::fault::{RunError, ScriptFault};
 use script::outcome::LineOutcome;
+use script::run::run_script;
 use std::alloc::{AllocError, Global};
-
-pub mod machines;
 
 // The line of an accepted call: its line number, 0, `-` and the answer.
 fn accepted_text(heap: Global, line: usize, answer: u32) -> Result<String, AllocError> {
@@ -42,9 +46,14 @@ fn part_text(
     Ok(text)
 }
 
-// Runs a script on the machine, and gives what is printed.
+// Runs a script on a fresh machine of 32 granules, flat memory under a quota of 24 over next fit, and gives what is printed.
 pub fn run_text(heap: Global, script: &[u8]) -> Result<String, AllocError> {
-    match run_on_b(heap.clone()?, script) {
+    let (mut bytes, mut tags) = ([0u8; 512], [0u8; 4]);
+    let (mut used, mut firsts) = ([0u8; 4], [0u8; 4]);
+    let memory = Flat::new(&mut bytes, &mut tags);
+    let allocator = Quota::new(NextFit::new(&mut used, &mut firsts), 24);
+    let mut machine = Machine::new(memory, allocator);
+    match run_script(heap.clone()?, &mut machine, script) {
         Ok(outcomes) => part_text(heap, 'B', 32, &outcomes),
         Err(RunError::Denied(fault)) => denied_text(heap, fault),
         Err(RunError::Memory(error)) => Err(error),
@@ -54,10 +63,7 @@ pub fn run_text(heap: Global, script: &[u8]) -> Result<String, AllocError> {
 #[cfg(test)]
 mod tests {
     use super::*;
-    use machine::machine::Machine;
-    use memory::flat::Flat;
-    use next_fit::NextFit;
-    use rules::compartment_machine::CompartmentMachine;
+    use machine::compartment_machine::CompartmentMachine;
     use std::test::Fail;
 
     // The code and the layer of a first grant over buffers of these sizes, or 0 and `-`.

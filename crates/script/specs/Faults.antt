@@ -4,7 +4,7 @@ use Rattle.denial.specs.declared.Denial.{Denial}
 use Rattle.denial.specs.declared.Denial.TheVariants as D
 use Rattle.denial.specs.declared.Layer.{Layer}
 use Rattle.denial.specs.declared.Layer.TheVariants as L
-use Rattle.registers.specs.Faults.{machine_denial, machine_layer}
+use Rattle.machine.specs.Faults.{machine_denial, machine_layer}
 use Rattle.reader.specs.declared.script.ReadError.{ReadError}
 use Rattle.reader.specs.declared.script.ReadError.TheVariants as E
 use Rattle.script.specs.declared.fault.RunError.{RunError}

@@ -1,11 +1,10 @@
 -- A script's lines on a machine: what each comes to, and the state at the end.
 use Rattle.std.specs.Prelude.{◌≡◌, ℕ, ◌<◌, ◌≤◌, List, [], ◌∷◌, length, Ok, Err, vec_items, Result, Vec}
 use Rattle.call.specs.declared.Call.{Call as TheCall}
-use Rattle.history.specs.Facts.{IsFresh, RanFromFresh}
-use Rattle.history.specs.Histories.{outcomes as outcomes_from}
-use Rattle.registers.specs.declared.fault.MachineFault.{MachineFault}
-use Rattle.rules.specs.Model.{Fixed, State, fresh_state, outcome, state_after}
-use Rattle.rules.specs.Rules.{perform}
+use Rattle.machine.specs.Calls.{call_of}
+use Rattle.machine.specs.Model.{Fixed, State, outcome, state_after}
+use Rattle.machine.specs.Rules.{perform}
+use Rattle.machine.specs.declared.fault.MachineFault.{MachineFault}
 use Rattle.reader.specs.Scripts.{Readings, numbered_lines}
 use Rattle.reader.specs.declared.place.Place.{Place}
 use Rattle.reader.specs.declared.script.Entry.{Entry}
@@ -28,12 +27,12 @@ script_answer_at (Err f) = Err (Call f)
 -- what a line comes to: TEXT if it reads as no call, else what the machine answers
 abbrev pub reading_outcome : Fixed → State → ℕ → Result TheCall Place → Result ℕ ScriptFault
 reading_outcome K s n (Err p) = Err (Text p)
-reading_outcome K s n (Ok c) = script_answer_at (answer_at n (outcome (perform K s c)))
+reading_outcome K s n (Ok c) = script_answer_at (answer_at n (outcome (perform K s (call_of c))))
 
 -- the state after a line: a line that reads as no call changes nothing
 abbrev pub reading_state : Fixed → State → Result TheCall Place → State
 reading_state K s (Err p) = s
-reading_state K s (Ok c) = state_after s (perform K s c)
+reading_state K s (Ok c) = state_after s (perform K s (call_of c))
 
 abbrev pub line_outcome : Fixed → State → Entry → LineOutcome
 line_outcome K s e = record { line = e.line; outcome = reading_outcome K s e.line e.reading }
@@ -47,30 +46,16 @@ abbrev pub state_of : Fixed → State → List Entry → State
 state_of K s [] = s
 state_of K s (e ∷ es) = state_of K (reading_state K s e.reading) es
 
--- the history of a script: the calls of the lines that read as one, in order
-abbrev pub with_call : Result TheCall Place → List TheCall → List TheCall
-with_call (Err p) cs = cs
-with_call (Ok c) cs = c ∷ cs
-
-abbrev pub calls_in : List Entry → List TheCall
-calls_in [] = []
-calls_in (e ∷ es) = with_call e.reading (calls_in es)
-
--- a run of a script: some entries are what its lines read as, the outcomes and the last state are theirs, and on a fresh machine the theorems hold of its history
+-- a run of a script: some entries are what its lines read as, and the outcomes and the last state are theirs
 pub record Ran (K : Fixed) (s t : State) (script : List ℕ) (os : List LineOutcome) : Type 0 where
   pub entries : List Entry
   pub short : length script ≤ 32768
   pub readings : Readings (numbered_lines script) entries
   pub outcomes : os ≡ outcomes_of K s entries
   pub state : t ≡ state_of K s entries
-  pub facts : IsFresh K s → RanFromFresh K (calls_in entries) (outcomes_from K s (calls_in entries)) t
 
 -- a script that is too long is TEXT at line 0, word 0; without memory for the outcomes nothing is said of them
 abbrev pub RunsScript : {Z : Type 0} → Fixed → State → State → List ℕ → Result (Vec LineOutcome Z) RunError → Type 0
 RunsScript K s t script (Ok v) = Ran K s t script (vec_items v)
 RunsScript K s t script (Err (Denied f)) = (32768 < length script) × (f ≡ Text (record { line = 0; word = 0 }))
 RunsScript K s t script (Err (Memory e)) = length script ≤ 32768
-
--- a script on a fresh machine
-abbrev pub RunsFresh : {Z : Type 0} → Fixed → List ℕ → Result (Vec LineOutcome Z) RunError → Type 0
-RunsFresh K script r = (t : State) × RunsScript K (fresh_state K) t script r

@@ -1,5 +1,5 @@
+use machine::fault::MachineFault;
 use reader::place::Place;
-use registers::fault::MachineFault;
 use std::alloc::AllocError;
 
 // A machine's fault at a line of a script.

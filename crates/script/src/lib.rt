@@ -1,7 +1,5 @@
-// Scripts on a machine: the lines that read as calls are a history, which is run, and what each line comes to is kept.
+// Scripts on a machine: each line is read and performed, and what it comes to is kept.
 pub mod fault;
-pub mod lines;
-mod merge;
 pub mod numbered;
 pub mod outcome;
 pub mod run;

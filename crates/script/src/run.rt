@@ -1,14 +1,65 @@
-ghost use Rattle.script.specs.Runs.{RunsScript};
-ghost use Rattle.std.specs.Prelude.{◌≡◌, false, is_ok};
+ghost use Rattle.script.specs.Runs.{answer_at, line_outcome, outcomes_of, RunsScript, reading_state, state_of};
+ghost use Rattle.std.specs.Prelude.{◌≡◌, true, false, is_ok, IfOk};
 
-use crate::fault::RunError;
-use crate::lines::run_entries;
+use crate::fault::{LineFault, RunError, ScriptFault};
 use crate::outcome::LineOutcome;
-use reader::script::read_script;
-use rules::compartment_machine::CompartmentMachine;
-use std::alloc::Global;
+use machine::compartment_machine::CompartmentMachine;
+use machine::fault::MachineFault;
+use reader::script::{Entry, read_script};
+use std::alloc::{AllocError, Global};
 
-// Reads a script and runs its history: what each line that is not empty comes to, in order.
+// A machine's answer at a line: its fault gets the line.
+fn at_line(line: usize, answer: Result<u32, MachineFault>) -> Result<u32, LineFault>
+    ensures { result ≡ answer_at line answer }
+{
+    match answer {
+        Ok(value) => Ok(value),
+        Err(fault) => Err(LineFault { line, fault }),
+    }
+}
+
+// Performs the call of a line, if it reads as one.
+fn perform_line<C: CompartmentMachine>(machine: &mut C, entry: Entry) -> Result<u32, ScriptFault>
+    ensures outcome { result ≡ (line_outcome (C.CompartmentMachine.fixed machine.old) (C.CompartmentMachine.state machine.old) entry).outcome }
+    ensures state { C.CompartmentMachine.state machine.new ≡ reading_state (C.CompartmentMachine.fixed machine.old) (C.CompartmentMachine.state machine.old) entry.reading }
+    ensures fixed { C.CompartmentMachine.fixed machine.new ≡ C.CompartmentMachine.fixed machine.old }
+{
+    let call = entry.reading?;
+    let value = at_line(entry.line, machine.perform(call))?;
+    Ok(value)
+}
+
+// What a line comes to on a machine.
+fn run_line<C: CompartmentMachine>(machine: &mut C, entry: Entry) -> LineOutcome
+    ensures outcome { result ≡ line_outcome (C.CompartmentMachine.fixed machine.old) (C.CompartmentMachine.state machine.old) entry }
+    ensures state { C.CompartmentMachine.state machine.new ≡ reading_state (C.CompartmentMachine.fixed machine.old) (C.CompartmentMachine.state machine.old) entry.reading }
+    ensures fixed { C.CompartmentMachine.fixed machine.new ≡ C.CompartmentMachine.fixed machine.old }
+{
+    LineOutcome {
+        line: entry.line,
+        outcome: perform_line(machine, entry),
+    }
+}
+
+// Runs the lines of a script, and keeps what each comes to. Without memory for that, nothing is run.
+pub fn run_entries<C: CompartmentMachine>(
+    heap: Global,
+    machine: &mut C,
+    entries: &[Entry],
+) -> Result<Vec<LineOutcome>, AllocError>
+    ensures outcomes { IfOk result (λ v. v.items ≡ outcomes_of (C.CompartmentMachine.fixed machine.old) (C.CompartmentMachine.state machine.old) entries.now) }
+    ensures state { is_ok result ≡ true → C.CompartmentMachine.state machine.new ≡ state_of (C.CompartmentMachine.fixed machine.old) (C.CompartmentMachine.state machine.old) entries.now }
+    ensures fixed { C.CompartmentMachine.fixed machine.new ≡ C.CompartmentMachine.fixed machine.old }
+    ensures denied { is_ok result ≡ false → machine.new ≡ machine.old }
+{
+    let mut outcomes = Vec::with_capacity(heap, entries.len())?;
+    for entry in entries {
+        outcomes.push_reserved(run_line(machine, *entry));
+    }
+    Ok(outcomes)
+}
+
+// Reads a script and runs it: what each line that is not empty comes to, in order.
 pub fn run_script<C: CompartmentMachine>(
     heap: Global,
     machine: &mut C,

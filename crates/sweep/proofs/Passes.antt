@@ -16,7 +16,7 @@ length_cond : (t : Bool) (xs ys : List Bool) → length xs ≡ length ys → len
 length_cond true xs ys e = e
 length_cond false xs ys e = refl
 
-pub length_swept : (rs : List Run) (bs : List ℕ) (p k : ℕ) (ts : List Bool) → length (swept_tags rs bs p k ts) ≡ length ts
+length_swept : (rs : List Run) (bs : List ℕ) (p k : ℕ) (ts : List Bool) → length (swept_tags rs bs p k ts) ≡ length ts
 length_swept rs bs p zero ts = refl
 length_swept rs bs p (suc k) ts =
     let before = swept_tags rs bs p k ts in

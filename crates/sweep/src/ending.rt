@@ -20,7 +20,6 @@ fn wipe_run<M: TaggedMemory>(memory: &mut M, run: Run)
 pub fn wipe_painted<M: TaggedMemory>(memory: &mut M, quarantine: &Quarantine)
     ensures bytes { M.TaggedMemory.bytes memory.new ≡ wiped_bytes (length (M.TaggedMemory.tags memory.old)) (painted_of quarantine.now) (M.TaggedMemory.bytes memory.old) }
     ensures tags { M.TaggedMemory.tags memory.new ≡ wiped_tags (painted_of quarantine.now) (M.TaggedMemory.tags memory.old) }
-    ensures size { length (M.TaggedMemory.tags memory.new) ≡ length (M.TaggedMemory.tags memory.old) }
 {
     for i in 0..quarantine.len() {
         let Some(run) = quarantine.painted_run(i) else {

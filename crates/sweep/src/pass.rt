@@ -1,5 +1,5 @@
 // Passing granules: capabilities whose base is painted lose their tags.
-ghost use Rattle.std.specs.Prelude.{◌≡◌, ◌-◌, ◌/◌, min, false, ◌&&◌, length, slice_index_or};
+ghost use Rattle.std.specs.Prelude.{◌≡◌, ◌-◌, ◌/◌, min, false, ◌&&◌, slice_index_or};
 ghost use Rattle.quarantine.specs.Kept.{painted_of};
 ghost use Rattle.quarantine.specs.Runs.{in_runs};
 ghost use Rattle.sweep.specs.Sweeping.{is_stale, swept_tag, swept_tags};
@@ -63,7 +63,6 @@ pub fn pass_one<M: TaggedMemory>(memory: &mut M, quarantine: &Quarantine, g: usi
 pub fn pass<M: TaggedMemory>(memory: &mut M, quarantine: &Quarantine, from: usize, count: usize)
     ensures bytes { M.TaggedMemory.bytes memory.new ≡ M.TaggedMemory.bytes memory.old }
     ensures tags { M.TaggedMemory.tags memory.new ≡ swept_tags (painted_of quarantine.now) (M.TaggedMemory.bytes memory.old) from count (M.TaggedMemory.tags memory.old) }
-    ensures size { length (M.TaggedMemory.tags memory.new) ≡ length (M.TaggedMemory.tags memory.old) }
 {
     let left = there(memory.granules(), from, count);
     for i in 0..left {

@@ -11,7 +11,6 @@ returns-in-default g c =
     record {
       bytes = ended (wiped_bytes all) (λ _. refl) rs c.loop-i.i _ _ c.in-default.ensures c.loop-i.invariant.1;
       tags = ended wiped_tags (λ _. refl) rs c.loop-i.i _ _ c.in-default.ensures c.loop-i.invariant.2;
-      size = c.loop-i.invariant.0;
     }
 
 pub loop-i-preserved : goal.loop-i-preserved
@@ -33,5 +32,4 @@ returns g c =
     record {
       bytes = ended_all (wiped_bytes all) (λ _. refl) rs c.loop-i.i _ _ (omega (arith, c.len-i-end.ensures, c.loop-i-test.false)) c.loop-i.invariant.1;
       tags = ended_all wiped_tags (λ _. refl) rs c.loop-i.i _ _ (omega (arith, c.len-i-end.ensures, c.loop-i-test.false)) c.loop-i.invariant.2;
-      size = c.loop-i.invariant.0;
     }

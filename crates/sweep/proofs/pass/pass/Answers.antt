@@ -1,7 +1,7 @@
 use Rattle.std.proofs.Common.{◌≡◌, ◌+◌, ◌-◌, min, length, sym, ap, ◌∙◌, rules}
 use Rattle.quarantine.specs.Kept.{painted_of}
 use Rattle.sweep.specs.Sweeping.{swept_tag}
-use Rattle.sweep.proofs.Passes.{length_swept, swept_more, swept_there}
+use Rattle.sweep.proofs.Passes.{swept_more, swept_there}
 use Rattle.sweep.proofs.pass.pass.Goals as goal
 
 pub loop-i-preserved : goal.loop-i-preserved
@@ -18,12 +18,10 @@ loop-i-preserved g c =
 
 pub returns : goal.returns
 returns g c =
-    let rs = painted_of c.args.quarantine.now in
-    let bs = g.M.TaggedMemory.bytes c.args.memory.now in
-    let ts = g.M.TaggedMemory.tags c.args.memory.now in
-    let count : c.loop-i.i ≡ min c.args.count (length ts - c.args.from) = search rules in
+    let count : c.loop-i.i ≡ min c.args.count (length (g.M.TaggedMemory.tags c.args.memory.now) - c.args.from) = search rules in
     record {
       bytes = c.loop-i.invariant.0;
-      tags = c.loop-i.invariant.1 ∙ swept_there rs bs c.args.from c.args.count c.loop-i.i ts count;
-      size = ap length c.loop-i.invariant.1 ∙ length_swept rs bs c.args.from c.loop-i.i ts;
+      tags =
+          c.loop-i.invariant.1
+          ∙ swept_there (painted_of c.args.quarantine.now) (g.M.TaggedMemory.bytes c.args.memory.now) c.args.from c.args.count c.loop-i.i (g.M.TaggedMemory.tags c.args.memory.now) count;
     }
