@@ -1,4 +1,6 @@
 // Allocators of granules, and quotas over them.
+#![tactic(auto)]
+
 pub mod allocator;
 pub mod fault;
 pub mod numbered;

@@ -1,4 +1,6 @@
 // Bit buffers over lent bytes: bit g % 8 of byte g / 8 stands for place g.
+#![tactic(auto)]
+
 ghost use Rattle.std.specs.Prelude.{◌≡◌, ℕ, ◌+◌, ◌*◌, ◌<◌, ◌≤◌, true, false, length, set, nat_le, slice_index_or, slice_set};
 ghost use Rattle.bits.specs.Bits.{bit, bits_of, BitPut, filled};
 

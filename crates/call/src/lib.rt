@@ -1,4 +1,6 @@
 // The calls that compartments make. Operands are any numbers: the machine checks them.
+#![tactic(auto)]
+
 #[derive(Clone, Copy)]
 pub enum Call {
     Grant {

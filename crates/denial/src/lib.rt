@@ -1,4 +1,6 @@
 // Denials by name, with their numbers, and the layers that they come from, with their letters.
+#![tactic(auto)]
+
 ghost use Rattle.denial.specs.Numbers.{number_of, letter_of};
 ghost use Rattle.std.specs.Prelude.{◌≡◌};
 

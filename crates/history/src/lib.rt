@@ -1,4 +1,6 @@
 // The theorems over every history of a fresh machine. Each function's contract is one of them; the functions do nothing.
+#![tactic(auto)]
+
 ghost use Rattle.history.specs.Isolation.{GroupCannotInterfere};
 ghost use Rattle.history.specs.Provenance.{AccessesFollowProvenance};
 ghost use Rattle.history.specs.Release.{MemoryReturnsWhenTheSweepEnds};

@@ -1,4 +1,6 @@
 // The machine: compartments with registers of capabilities over any tagged memory and any allocator.
+#![tactic(auto)]
+
 pub mod calls;
 mod checks;
 pub mod compartment;

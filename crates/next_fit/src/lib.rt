@@ -1,4 +1,6 @@
 // The bitmap allocator: next fit over two lent bit buffers.
+#![tactic(auto)]
+
 ghost use Rattle.std.specs.Prelude.{◌≡◌, ◌+◌, ◌*◌, ◌<◌, ◌≤◌, true, length, IfSome};
 ghost use Rattle.allocator.specs.Maps.{run_length};
 ghost use Rattle.next_fit.specs.Bitmaps.{GranulesOf, fresh_map, map_of, sizes_answer, sizes_fit, zeroed_if};

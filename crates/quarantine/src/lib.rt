@@ -1,4 +1,6 @@
 // The quarantine: freed runs that wait for a revocation sweep, runs that the open sweep has painted, and the sweep.
+#![tactic(auto)]
+
 ghost use Rattle.std.specs.Prelude.{◌≡◌, ◌≤◌, true, length, take};
 ghost use Rattle.bits.specs.Bits.{bits_of};
 ghost use Rattle.quarantine.specs.Runs.{shadow_of};

@@ -1,4 +1,6 @@
 // The reader: from the bytes of a script to its calls, line by line.
+#![tactic(auto)]
+
 pub mod letters;
 pub mod line;
 pub mod number;

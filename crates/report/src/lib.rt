@@ -1,4 +1,6 @@
 // What a run of a script prints.
+#![tactic(auto)]
+
 use allocator::quota::Quota;
 use denial::Layer;
 use machine::compartment_machine::CompartmentMachine;

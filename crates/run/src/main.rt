@@ -1,4 +1,6 @@
 // Runs the script on standard input, and prints what each line comes to.
+#![tactic(auto)]
+
 use report::run_text;
 use std::io::Read;
 

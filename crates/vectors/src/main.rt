@@ -1,4 +1,6 @@
 // Runs each script of the data folder, and prints how many of them print something else than they should.
+#![tactic(auto)]
+
 use report::run_text;
 use std::fs;
 

@@ -22,7 +22,7 @@ loop-g-preserved c =
     let v = c.args.on in
     let at : c.loop-g.g ≡ c.args.from + i = omega arith in
     let more : i + 1 ≡ c.loop-g.g + 1 - c.args.from = omega arith in
-    let room = leb-true c.args.end (8 * length c.args.bits.now) (sym c.if-not-has-room.ensures) in (
+    let room = leb-true c.args.end (8 * length c.args.bits.now) (sym c.if-not-has_room.ensures) in (
       c.put.ensures
           ∙ (ap (λ xs. set xs c.loop-g.g v) c.loop-g.invariant.0
           ∙ (ap (λ k. set (paste bs c.args.from (replicate i v) i) k v) at
@@ -35,5 +35,5 @@ pub returns : goal.returns
 returns c =
     let bs = bits_of c.args.bits.now in
     let n : c.loop-g.g - c.args.from ≡ c.args.end - c.args.from = omega (arith, c.loop-g.invariant.1) in
-    let e : leb c.args.end (length bs) ≡ true = ap (leb c.args.end) (length_bits c.args.bits.now) ∙ sym c.if-not-has-room.ensures in
+    let e : leb c.args.end (length bs) ≡ true = ap (leb c.args.end) (length_bits c.args.bits.now) ∙ sym c.if-not-has_room.ensures in
     c.loop-g.invariant.0 ∙ (ap (λ k. paste bs c.args.from (replicate k c.args.on) k) n ∙ sym (cond-true _ _ _ e))

@@ -5,7 +5,7 @@ use Rattle.bits.proofs.Masks.{get_d_bits}
 use Rattle.bits.proofs.get.Goals as goal
 
 pub returns-then-g-bits : goal.returns-then-g-bits
-returns-then-g-bits c = c.test-bit.ensures ∙ sym (get_d_bits c.args.bits.now c.args.g (omega arith))
+returns-then-g-bits c = c.test_bit.ensures ∙ sym (get_d_bits c.args.bits.now c.args.g (omega arith))
 
 pub returns-else-g-bits : goal.returns-else-g-bits
 returns-else-g-bits c =

@@ -6,7 +6,7 @@ use Rattle.bits.proofs.put.Goals as goal
 
 pub returns-then-g-bits : goal.returns-then-g-bits
 returns-then-g-bits c =
-    bits_put c.args.bits.now c.args.g c.with-bit.result c.args.on (omega arith) c.with-bit.ensures
+    bits_put c.args.bits.now c.args.g c.with_bit.result c.args.on (omega arith) c.with_bit.ensures
 
 pub returns-else-g-bits : goal.returns-else-g-bits
 returns-else-g-bits c =
