@@ -14,7 +14,7 @@ import re
 import sys
 
 TOP = os.getcwd()
-SIGNATURE = re.compile(r"^\s*(?:(?:abbrev|unfoldable|pub|axiom)\s+)*(?:(record|data)\s+)?([^\s(){}\[\].;,:]+)(?:\s+[({].*?)?\s+:\s+(.*)$")
+SIGNATURE = re.compile(r"^\s*(?:(?:abbrev|unfoldable|pub|axiom)\s+)*(?:(record|data)\s+)?([^\s(){}\[\].;,:]+)(?:\s+[({].*?)?\s+:(?:\s+(.*))?$")
 ALIAS = re.compile(r"\bas\s+([^\s(){}\[\].;,:]+-[^\s(){}\[\].;,:]*)")
 MADE = re.compile(r"^(?:goal|given|need)\.")
 TOKEN = re.compile(r"[^\s(){}\[\].;,:`]+")
@@ -54,7 +54,7 @@ def declared():
         for line in read(path).split("\n"):
             m = SIGNATURE.match(line)
             if m:
-                (made if MADE.match(m.group(3)) else names).add(m.group(2))
+                (made if MADE.match(m.group(3) or "") else names).add(m.group(2))
             names.update(ALIAS.findall(line))
     return names - made
 

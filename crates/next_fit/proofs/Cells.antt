@@ -78,10 +78,10 @@ run_rest (suc n) zero d g h = absurd (omega arith)
 run_rest (suc n) (suc k) d g h = get_or-replicate n k rest d (omega arith)
 
 -- a run allocated at b, in both bit lists
-pub cells-run :
+pub cells_run :
     (us fs : List Bool) (b n : ℕ) → 0 < n → b + n ≤ length us → b + n ≤ length fs →
     cells_of (paste us b (replicate n true) n) (set (paste fs b (replicate n false) n) b true) ≡ paste (cells_of us fs) b (run_of n) n
-cells-run us fs b n z hu hf =
+cells_run us fs b n z hu hf =
     let us' = paste us b (replicate n true) n in
     let ps = paste fs b (replicate n false) n in
     let lt = length-replicate n true in

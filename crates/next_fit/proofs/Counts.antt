@@ -11,7 +11,7 @@ use Rattle.bits.specs.Bits.{bit_at, bits_of, filled, length_bits}
 use Rattle.next_fit.specs.Bitmaps.{GranulesOf, cell_of, cells_of, count_set, fresh_map, map_of, sizes_fit, zeroed_if}
 use Rattle.next_fit.specs.Laws.{next_fit_lawful}
 use Rattle.next_fit.specs.Placement.{is_used, next_fit}
-use Rattle.next_fit.proofs.Cells.{cell_at, cell_free, cells_freed, cells-run, filled_run, length_cells, used_cells}
+use Rattle.next_fit.proofs.Cells.{cell_at, cell_free, cells_freed, cells_run, filled_run, length_cells, used_cells}
 
 pub record Fit (nu nf : ℕ) : Type 0 where
   pub same : nu ≡ nf
@@ -68,40 +68,40 @@ unfolding taken_in
 none_taken cs e = let z = nil_from_length cs e in sym (ap taken_in z)
 
 -- an allocation that is accepted
-pub allocating-placed :
+pub allocating_placed :
     (place : Rule) (cs : List Cell) (m most n : ℕ) (x : ℕ × ℕ) → 0 < n → taken_in cs + n ≤ most → Some x ≡ place cs m n →
     allocating place cs m most n ≡ record { answer = Ok x.0; cells = paste cs x.0 (run_of n) n; mark = x.1 }
-allocating-placed place cs m most n x z l e = rw (ne_eqb n 0 (λ q. omega arith), le-ltb most (taken_in cs + n) l, sym e)
+allocating_placed place cs m most n x z l e = rw (ne_eqb n 0 (λ q. omega arith), le-ltb most (taken_in cs + n) l, sym e)
 
 -- the map after the writes of an allocation
-pub map-allocated :
+pub map_allocated :
     (us fs us' fs' : List ℕ) (b n : ℕ) → sizes_fit (length us) (length fs) ≡ true → length us' ≡ length us → length fs' ≡ length fs →
     0 < n → b + n ≤ 8 * length us → b + n ≤ 8 * length fs →
     bits_of us' ≡ filled (bits_of us) b (b + n) true → bits_of fs' ≡ set (filled (bits_of fs) b (b + n) false) b true →
     map_of us' fs' ≡ paste (map_of us fs) b (run_of n) n
-map-allocated us fs us' fs' b n e lu lf z hu hf pu pf =
+map_allocated us fs us' fs' b n e lu lf z hu hf pu pf =
     let nu = length_bits us in
     let nf = length_bits fs in
     let qu = pu ∙ filled_run (bits_of us) b n true (omega arith) in
     let qf = pf ∙ ap (λ xs. set xs b true) (filled_run (bits_of fs) b n false (omega arith)) in
     map_open us' fs' (rw (lu, lf) e)
-    ∙ (rw (qu, qf) (cells-run (bits_of us) (bits_of fs) b n z (omega arith) (omega arith))
+    ∙ (rw (qu, qf) (cells_run (bits_of us) (bits_of fs) b n z (omega arith) (omega arith))
     ∙ ap (λ cs. paste cs b (run_of n) n) (sym (map_open us fs e)))
 
 -- the map after the write of a release
-pub map-released :
+pub map_released :
     (us fs us' : List ℕ) (b n : ℕ) → sizes_fit (length us) (length fs) ≡ true → length us' ≡ length us → b + n ≤ 8 * length us →
     bits_of us' ≡ filled (bits_of us) b (b + n) false → map_of us' fs ≡ paste (map_of us fs) b (replicate n free) n
-map-released us fs us' b n e lu h p =
+map_released us fs us' b n e lu h p =
     let nu = length_bits us in
     let q = p ∙ filled_run (bits_of us) b n false (omega arith) in
     map_open us' fs (rw lu e)
     ∙ (rw q (cells_freed (bits_of us) (bits_of fs) b n (omega arith)) ∙ ap (λ cs. paste cs b (replicate n free) n) (sym (map_open us fs e)))
 
-pub releasing-whole :
+pub releasing_whole :
     (cs : List Cell) (m b n : ℕ) → 0 < n → n ≡ run_length cs b →
     releasing cs m b ≡ record { answer = Ok n; cells = paste cs b (replicate n free) n; mark = m }
-releasing-whole cs m b n z e = rw (sym e, lt-ltb 0 n z)
+releasing_whole cs m b n z e = rw (sym e, lt-ltb 0 n z)
 
 -- what the rule answers lies inside
 pub place_inside : (cs : List Cell) (m n : ℕ) (r : Option (ℕ × ℕ)) → 0 < n → r ≡ next_fit cs m n → IfSome r (λ x. x.0 + n ≤ length cs)
@@ -133,13 +133,13 @@ cells_fresh n m =
     ∙ (ap (λ u. cell_of u (get_or fs i false)) (zero_bits n i h') ∙ (cell_free (get_or fs i false) ∙ sym (get_or-replicate (8 * n) i free free h'))))
 
 -- the map of two buffers that were zeroed if their sizes fit
-pub map-fresh :
+pub map_fresh :
     (us fs vs gs : List ℕ) (fit : Bool) → fit ≡ sizes_fit (length us) (length fs) → vs ≡ zeroed_if fit us →
     gs ≡ zeroed_if fit fs → map_of vs gs ≡ fresh_map (length us) (length fs)
-map-fresh us fs vs gs true e p q =
+map_fresh us fs vs gs true e p q =
     let lu : length (replicate {A = ℕ} (length us) 0) ≡ length us = length-replicate (length us) 0 in
     let lf : length (replicate {A = ℕ} (length fs) 0) ≡ length fs = length-replicate (length fs) 0 in
     rw (p, q)
     (map_open (replicate (length us) 0) (replicate (length fs) 0) (rw (lu, lf) (sym e))
     ∙ (cells_fresh (length us) (length fs) ∙ sym (cond-true _ _ _ (sym e))))
-map-fresh us fs vs gs false e p q = rw (p, q) (cond-false _ _ _ (sym e) ∙ sym (cond-false _ _ _ (sym e)))
+map_fresh us fs vs gs false e p q = rw (p, q) (cond-false _ _ _ (sym e) ∙ sym (cond-false _ _ _ (sym e)))

@@ -90,17 +90,17 @@ free_hit : (cs : List Cell) (n b : ℕ) → FreeAt cs b n → all_free (map is_u
 free_hit cs n b h = all_from (map is_used cs) b n (λ k l. used_at cs (b + k) ∙ ap is_used (h.1 k l))
 
 -- what either of two searches found
-either-hit :
+either_hit :
     (us : List Bool) (n top b next : ℕ) (p q : Option ℕ) →
     ((x : ℕ) → p ≡ Some x → Hit us n top x) → ((x : ℕ) → q ≡ Some x → Hit us n top x) →
     base_and_mark n p (base_and_mark n q None) ≡ Some (b, next) → Hit us n top b
-either-hit us n top b next (Some x) q f g e =
+either_hit us n top b next (Some x) q f g e =
     let v : ◌≡◌ {A = ℕ × ℕ} (x, x + n) (b, next) = cc in
     let w : x ≡ b = ap (λ (t : ℕ × ℕ). t.0) v in rw (sym w) (f x refl)
-either-hit us n top b next None (Some x) f g e =
+either_hit us n top b next None (Some x) f g e =
     let v : ◌≡◌ {A = ℕ × ℕ} (x, x + n) (b, next) = cc in
     let w : x ≡ b = ap (λ (t : ℕ × ℕ). t.0) v in rw (sym w) (g x refl)
-either-hit us n top b next None None f g e = absurd (some_not_none (b, next) (sym e))
+either_hit us n top b next None None f g e = absurd (some_not_none (b, next) (sym e))
 
 neither : (n : ℕ) (p q : Option ℕ) → base_and_mark n p (base_and_mark n q None) ≡ None → q ≡ None
 neither n (Some x) q e = absurd (some_not_none (x, x + n) e)
@@ -123,7 +123,7 @@ answered_free : (cs : List Cell) (m n b next : ℕ) → next_fit cs m n ≡ Some
 answered_free cs m n b next e =
     let us = map is_used cs in
     hit_free cs n b
-    (either-hit us n (length us) b next (lowest_fit us n m (length us - m)) (lowest_fit us n 0 (length us)) (from_mark us n m) (from_zero us n) e)
+    (either_hit us n (length us) b next (lowest_fit us n m (length us - m)) (lowest_fit us n 0 (length us)) (from_mark us n m) (from_zero us n) e)
 
 nothing_free : (cs : List Cell) (m n : ℕ) → 0 < n → next_fit cs m n ≡ None → (b : ℕ) → FreeAt cs b n → ⊥
 nothing_free cs m n z e b h =

@@ -5,9 +5,9 @@ use Rattle.std.proofs.lemmas.Bool.{cond-true, cond-false, leb-true}
 use Rattle.bits.specs.Bits.{bits_of, length_bits}
 use Rattle.bits.proofs.fill.Goals as goal
 
-pub returns-then-not-has-room : goal.returns-then-not-has-room
-returns-then-not-has-room c =
-    let e : leb c.args.end (length (bits_of c.args.bits.now)) ≡ false = ap (leb c.args.end) (length_bits c.args.bits.now) ∙ sym c.if-not-has-room.ensures in
+pub returns-then-not-has_room : goal.returns-then-not-has_room
+returns-then-not-has_room c =
+    let e : leb c.args.end (length (bits_of c.args.bits.now)) ≡ false = ap (leb c.args.end) (length_bits c.args.bits.now) ∙ sym c.if-not-has_room.ensures in
     sym (cond-false _ _ _ e)
 
 pub loop-g-init : goal.loop-g-init

@@ -12,7 +12,7 @@ returns c =
     let fs = c.args.self.now.firsts.now in
     let m = c.args.self.now.mark in
     let n = c.args.n in
-    let v : c.find-place.result ≡ next_fit (map_of us fs) m n
-    = c.find-place.ensures
+    let v : c.find_place.result ≡ next_fit (map_of us fs) m n
+    = c.find_place.ensures
     ∙ sym (ap (λ cs. next_fit cs m n) (c.count.ensures.opens (omega arith)) ∙ ap (λ xs. place_of xs m n) (used_cells (bits_of us) (bits_of fs))) in
-    record { within = place_inside (map_of us fs) m n c.find-place.result (omega arith) v; value = v }
+    record { within = place_inside (map_of us fs) m n c.find_place.result (omega arith) v; value = v }

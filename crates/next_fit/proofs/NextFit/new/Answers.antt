@@ -1,5 +1,5 @@
 use Rattle.std.proofs.Common.{refl, rules}
-use Rattle.next_fit.proofs.Counts.{map-fresh}
+use Rattle.next_fit.proofs.Counts.{map_fresh}
 use Rattle.next_fit.proofs.NextFit.new.Goals as goal
 
 pub returns : goal.returns
@@ -9,8 +9,8 @@ returns c =
     record {
       used = search rules;
       firsts = search rules;
-      same-used = refl;
-      same-firsts = refl;
-      map = map-fresh us fs c.reset.new.buffer c.reset-2.new.buffer c.fits-fit.result c.fits-fit.ensures c.reset.ensures c.reset-2.ensures;
+      same_used = refl;
+      same_firsts = refl;
+      map = map_fresh us fs c.reset.new.buffer c.reset-2.new.buffer c.fits-fit.result c.fits-fit.ensures c.reset.ensures c.reset-2.ensures;
       mark = refl;
     }

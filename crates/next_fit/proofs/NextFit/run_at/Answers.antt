@@ -16,6 +16,6 @@ pub returns : goal.returns
 returns c =
     record {
       fits = λ h. c.count.ensures.fits (omega arith);
-      within = λ h. c.run-length.ensures.within;
-      value = c.run-length.ensures.value ∙ ap (λ cs. run_length cs c.args.b) (sym (c.count.ensures.opens (omega arith)));
+      within = λ h. c.run_length.ensures.within;
+      value = c.run_length.ensures.value ∙ ap (λ cs. run_length cs c.args.b) (sym (c.count.ensures.opens (omega arith)));
     }

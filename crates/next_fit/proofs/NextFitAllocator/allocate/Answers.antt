@@ -6,7 +6,7 @@ use Rattle.allocator.specs.Maps.{run_of}
 use Rattle.next_fit.specs.Bitmaps.{map_of}
 use Rattle.next_fit.specs.Placement.{next_fit}
 use Rattle.next_fit.proofs.Cells.{length_run}
-use Rattle.next_fit.proofs.Counts.{allocating-placed, map-allocated}
+use Rattle.next_fit.proofs.Counts.{allocating_placed, map_allocated}
 use Rattle.next_fit.proofs.NextFitAllocator.allocate.Goals as goal
 
 pub returns : goal.returns
@@ -23,10 +23,10 @@ returns c =
     let hu : 8 * length us ≡ all = c.count_all.ensures.used (omega arith) in
     let hf : 8 * length fs ≡ all = c.count_all.ensures.firsts (omega arith) in
     let fit = c.count_all.ensures.fits (omega arith) in
-    let t = allocating-placed next_fit cs m (length cs) n (b, c.in-Some.mark) (omega arith) (omega arith) c.in-Some.ensures.value in
-    let k : map_of c.fill.new.bits c.begin-run.new.firsts ≡ paste cs b (run_of n) n
-    = map-allocated us fs c.fill.new.bits c.begin-run.new.firsts b n fit (omega arith) (omega arith) (omega arith) (omega arith) (omega arith) c.fill.ensures c.begin-run.ensures in
-    let same : length (map_of c.fill.new.bits c.begin-run.new.firsts) ≡ length cs = ap length k ∙ length-paste cs b (run_of n) n w (omega (arith, length_run n)) in
+    let t = allocating_placed next_fit cs m (length cs) n (b, c.in-Some.mark) (omega arith) (omega arith) c.in-Some.ensures.value in
+    let k : map_of c.fill.new.bits c.begin_run.new.firsts ≡ paste cs b (run_of n) n
+    = map_allocated us fs c.fill.new.bits c.begin_run.new.firsts b n fit (omega arith) (omega arith) (omega arith) (omega arith) (omega arith) c.fill.ensures c.begin_run.ensures in
+    let same : length (map_of c.fill.new.bits c.begin_run.new.firsts) ≡ length cs = ap length k ∙ length-paste cs b (run_of n) n w (omega (arith, length_run n)) in
     record {
       answer = sym (ap (λ o. o.answer) t);
       cells = k ∙ sym (ap (λ o. o.cells) t);

@@ -10,5 +10,5 @@ returns-then-count-eq0 c = none_taken (map_of c.args.self.now.used.now c.args.se
 
 pub returns : goal.returns
 returns c =
-    c.count-taken.ensures
+    c.count_taken.ensures
     ∙ sym (ap taken_in (c.count.ensures.opens (omega arith)) ∙ taken_cells (bits_of c.args.self.now.used.now) (bits_of c.args.self.now.firsts.now))

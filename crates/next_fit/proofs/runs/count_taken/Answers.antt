@@ -12,7 +12,7 @@ loop-g-preserved c =
     let us = bits_of c.args.used.now in
     let u = get_or us c.loop-g.g false in
     let n = length_bits c.args.used.now in
-    let one : c.one-if-n.result ≡ cond u 1 0 = c.one-if-n.ensures ∙ ap (λ (t : Bool). cond {A = ℕ} t 1 0) c.get.ensures in
+    let one : c.one_if-n.result ≡ cond u 1 0 = c.one_if-n.ensures ∙ ap (λ (t : Bool). cond {A = ℕ} t 1 0) c.get.ensures in
     let more = count_more us c.loop-g.g (omega arith) in
     (omega (arith, at_most_one u), omega arith)
 

@@ -10,4 +10,4 @@ returns c =
     let fs = bits_of c.args.firsts.now in
     let u = c.get.ensures in
     let f = c.get-2.ensures in
-    c.first-bits.ensures ∙ (ap is_first (cc) ∙ ap is_first (sym (cell_at us fs c.args.g)))
+    c.first_bits.ensures ∙ (ap is_first (cc) ∙ ap is_first (sym (cell_at us fs c.args.g)))

@@ -10,4 +10,4 @@ returns c =
     let fs = bits_of c.args.firsts.now in
     let u = c.get.ensures in
     let f = c.get-2.ensures in
-    c.rest-bits.ensures ∙ (ap is_rest (cc) ∙ ap is_rest (sym (cell_at us fs c.args.g)))
+    c.rest_bits.ensures ∙ (ap is_rest (cc) ∙ ap is_rest (sym (cell_at us fs c.args.g)))

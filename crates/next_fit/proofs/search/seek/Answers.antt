@@ -4,8 +4,8 @@ use Rattle.next_fit.specs.Placement.{all_free, lowest_fit}
 use Rattle.next_fit.proofs.Seeks.{free_more, lowest_behind, lowest_hit, lowest_none}
 use Rattle.next_fit.proofs.search.seek.Goals as goal
 
-pub is-blocked-requires : goal.is-blocked-requires
-is-blocked-requires c = record { few = c.requires.few; small = omega (arith, c.loop-i.invariant.0) }
+pub is_blocked-requires : goal.is_blocked-requires
+is_blocked-requires c = record { few = c.requires.few; small = omega (arith, c.loop-i.invariant.0) }
 
 pub behind-b-requires : goal.behind-b-requires
 behind-b-requires c = omega (arith, c.loop-i.invariant.0)
@@ -20,13 +20,13 @@ candidates-preserved c =
     let n = c.args.n in
     let at : lowest_fit us n c.behind-b.result (all - c.behind-b.result) ≡ lowest_fit us n c.loop-i.b (all - c.loop-i.b)
     = ap (λ b. lowest_fit us n b (all - b)) c.behind-b.ensures
-    ∙ sym (lowest_behind us n c.loop-i.b c.loop-i.i all (omega arith) (sym c.if-is-blocked.ensures)) in
+    ∙ sym (lowest_behind us n c.loop-i.b c.loop-i.i all (omega arith) (sym c.if-is_blocked.ensures)) in
     at ∙ (ap (λ b. lowest_fit us n b (all - b)) c.loop-i.invariant.0 ∙ c.candidates.invariant)
 
 pub loop-i-preserved : goal.loop-i-preserved
 loop-i-preserved c = (
   c.loop-i.invariant.0,
-  free_more (bits_of c.args.used.now) c.loop-i.b c.loop-i.i (sym c.if-is-blocked.ensures) c.loop-i.invariant.1,
+  free_more (bits_of c.args.used.now) c.loop-i.b c.loop-i.i (sym c.if-is_blocked.ensures) c.loop-i.invariant.1,
 )
 
 pub returns-in-candidates : goal.returns-in-candidates

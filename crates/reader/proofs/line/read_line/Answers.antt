@@ -17,25 +17,25 @@ so_far v i ns ws = name_of v ∷ (operand_texts (take i (kinds_of v)) (take i ns
 pub returns-in-err-verb : goal.returns-in-err-verb
 returns-in-err-verb c =
     let line = c.args.line.now in
-    let text = c.word-at-text.result.now in
+    let text = c.word_at-text.result.now in
     let p = err_from_is_err_and c.from-residual.result c.from-residual.ensures.1 in
     let known = c.in-err-verb.ensures in
-    let first = first_cut line text _ c.word-at-text.ensures refl in
+    let first = first_cut line text _ c.word_at-text.ensures refl in
     record {
-      law = breaks_at line _ 1 _ p.0 c.of-verb.result p.1 (p.2 ∙ known.0) c.of-verb.ensures.line c.of-verb.ensures.word (no_verb line text _ first known.1);
+      law = breaks_at line _ 1 _ p.0 c.of_verb.result p.1 (p.2 ∙ known.0) c.of_verb.ensures.line c.of_verb.ensures.word (no_verb line text _ first known.1);
       once = reads_once;
     }
 
-pub returns-then-not-goes-on : goal.returns-then-not-goes-on
-returns-then-not-goes-on c =
+pub returns-then-not-goes_on : goal.returns-then-not-goes_on
+returns-then-not-goes_on c =
     let line = c.args.line.now in
     let v = c.in-ok-verb.verb in
     let i = c.loop-i.i in
     let ns = c.loop-i.operands in
-    let past : length line < c.loop-i.end + 1 = grind (arith, nat_tests, c.if-not-goes-on.ensures) in
+    let past : length line < c.loop-i.end + 1 = grind (arith, nat_tests, c.if-not-goes_on.ensures) in
     let words = c.loop-i.invariant.0 ∙ ap (so_far v i ns) (from_past line (c.loop-i.end + 1) past) in
     record {
-      law = stops_at line _ (i + 2) c.of-operand-place.result c.of-operand-place.ensures.line c.of-operand-place.ensures.word (missing line v i (take i ns) words c.loop-i.invariant.1 (omega arith));
+      law = stops_at line _ (i + 2) c.of_operand-place.result c.of_operand-place.ensures.line c.of_operand-place.ensures.word (missing line v i (take i ns) words c.loop-i.invariant.1 (omega arith));
       once = reads_once;
     }
 
@@ -45,14 +45,14 @@ returns-in-err-operands c =
     let v = c.in-ok-verb.verb in
     let i = c.loop-i.i in
     let ns = c.loop-i.operands in
-    let k = c.kind-at.result in
-    let text = c.word-at-text_in-loop-i.result.now in
+    let k = c.kind_at.result in
+    let text = c.word_at-text_in-loop-i.result.now in
     let p = err_from_is_err_and c.from-residual-in-err-operands.result c.from-residual-in-err-operands.ensures.1 in
-    let read = operand_read c.operand.result k text c.of-operand-place.result (Err c.in-err-operands.field-0.0) c.operand.ensures.kind c.operand.ensures.text c.operand.ensures.place c.in-err-operands.ensures in
-    let words = c.loop-i.invariant.0 ∙ ap (so_far v i ns) c.word-at-text_in-loop-i.ensures.words in
+    let read = operand_read c.operand.result k text c.of_operand-place.result (Err c.in-err-operands.field-0.0) c.operand.ensures.kind c.operand.ensures.text c.operand.ensures.place c.in-err-operands.ensures in
+    let words = c.loop-i.invariant.0 ∙ ap (so_far v i ns) c.word_at-text_in-loop-i.ensures.words in
     record {
-      law = breaks_at line _ (i + 2) _ p.0 c.of-operand-place.result p.1 (p.2 ∙ read.0) c.of-operand-place.ensures.line c.of-operand-place.ensures.word
-          (wrong_word line v i (take i ns) text _ k words c.loop-i.invariant.1 (omega arith) c.kind-at.ensures read.1);
+      law = breaks_at line _ (i + 2) _ p.0 c.of_operand-place.result p.1 (p.2 ∙ read.0) c.of_operand-place.ensures.line c.of_operand-place.ensures.word
+          (wrong_word line v i (take i ns) text _ k words c.loop-i.invariant.1 (omega arith) c.kind_at.ensures read.1);
       once = reads_once;
     }
 
@@ -62,28 +62,28 @@ loop-i-preserved c =
     let v = c.in-ok-verb.verb in
     let i = c.loop-i.i in
     let ns = c.loop-i.operands in
-    let k = c.kind-at.result in
-    let text = c.word-at-text_in-loop-i.result.now in
+    let k = c.kind_at.result in
+    let text = c.word_at-text_in-loop-i.result.now in
     let x = c.in-ok-operands.field-0 in
-    let read = operand_read c.operand.result k text c.of-operand-place.result (Ok x) c.operand.ensures.kind c.operand.ensures.text c.operand.ensures.place c.in-ok-operands.ensures in
+    let read = operand_read c.operand.result k text c.of_operand-place.result (Ok x) c.operand.ensures.kind c.operand.ensures.text c.operand.ensures.place c.in-ok-operands.ensures in
     let next : (c.loop-i.end + 1) + (length text + 1) ≡ (c.loop-i.end + (1 + length text)) + 1 = omega arith in
-    let step = c.word-at-text_in-loop-i.ensures.words ∙ ap (λ m. text ∷ words_from line m) next in
+    let step = c.word_at-text_in-loop-i.ensures.words ∙ ap (λ m. text ∷ words_from line m) next in
     let words = c.loop-i.invariant.0 ∙ ap (so_far v i ns) step in
     let six : length ns ≡ 6 = c.loop-i.invariant.3 in
-    let a = again line v i ns text _ k x words c.loop-i.invariant.1 (omega arith) (search rules) c.kind-at.ensures read in
-    (a.0, a.1, omega (arith, c.word-at-text_in-loop-i.ensures.within), search rules)
+    let a = again line v i ns text _ k x words c.loop-i.invariant.1 (omega arith) (search rules) c.kind_at.ensures read in
+    (a.0, a.1, omega (arith, c.word_at-text_in-loop-i.ensures.within), search rules)
 
-pub returns-then-goes-on : goal.returns-then-goes-on
-returns-then-goes-on c =
+pub returns-then-goes_on : goal.returns-then-goes_on
+returns-then-goes_on c =
     let line = c.args.line.now in
     let v = c.in-ok-verb.verb in
     let i = c.loop-i.i in
     let ns = c.loop-i.operands in
-    let inside : c.loop-i.end + 1 ≤ length line = grind (arith, nat_tests, c.if-goes-on.ensures) in
+    let inside : c.loop-i.end + 1 ≤ length line = grind (arith, nat_tests, c.if-goes_on.ensures) in
     let e : i ≡ length (kinds_of v) = omega arith in
     let words = c.loop-i.invariant.0 ∙ ap (so_far v i ns) (from_step line (c.loop-i.end + 1) _ inside refl) in
     record {
-      law = stops_at line _ (i + 2) c.of-operand.result c.of-operand.ensures.line (c.of-operand.ensures.word ∙ ap (λ m. m + 2) (c.arity.ensures ∙ sym e)) (too_many line v i (take i ns) _ _ words c.loop-i.invariant.1 e);
+      law = stops_at line _ (i + 2) c.of_operand.result c.of_operand.ensures.line (c.of_operand.ensures.word ∙ ap (λ m. m + 2) (c.arity.ensures ∙ sym e)) (too_many line v i (take i ns) _ _ words c.loop-i.invariant.1 e);
       once = reads_once;
     }
 
@@ -93,7 +93,7 @@ returns c =
     let v = c.in-ok-verb.verb in
     let i = c.loop-i.i in
     let ns = c.loop-i.operands in
-    let past : length line < c.loop-i.end + 1 = grind (arith, nat_tests, c.if-goes-on.ensures) in
+    let past : length line < c.loop-i.end + 1 = grind (arith, nat_tests, c.if-goes_on.ensures) in
     let k : length (kinds_of v) ≡ i = omega arith in
     let words = c.loop-i.invariant.0 ∙ ap (so_far v i ns) (from_past line (c.loop-i.end + 1) past) in
     record {

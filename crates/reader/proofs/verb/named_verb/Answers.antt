@@ -21,4 +21,4 @@ one_of_all word (Some v) h = h
 one_of_all word None h = none_of_all word h
 
 pub returns : goal.returns
-returns c = one_of_all c.args.text.now _ c.first-named.ensures
+returns c = one_of_all c.args.text.now _ c.first_named.ensures

@@ -3,8 +3,8 @@ use Rattle.std.proofs.lemmas.Bool.{both_ways}
 use Rattle.script.proofs.Steps.{outcomes_more, outcomes_done, state_more, state_done}
 use Rattle.script.proofs.run.run_entries.Goals as goal
 
-pub push-reserved-requires : goal.push-reserved-requires
-push-reserved-requires g c = omega (arith, c.loop-entry.invariant.0, length-drop c.loop-entry.entry-index c.args.entries.now)
+pub push_reserved-requires : goal.push_reserved-requires
+push_reserved-requires g c = omega (arith, c.loop-entry.invariant.0, length-drop c.loop-entry.entry-index c.args.entries.now)
 
 pub loop-entry-preserved : goal.loop-entry-preserved
 loop-entry-preserved g c =
@@ -13,11 +13,11 @@ loop-entry-preserved g c =
     let K = g.C.CompartmentMachine.fixed c.args.machine.now in
     let J = g.C.CompartmentMachine.fixed c.loop-entry.machine in
     let s = g.C.CompartmentMachine.state c.loop-entry.machine in
-    let t = g.C.CompartmentMachine.state c.run-line.new.machine in (
-      omega (arith, c.loop-entry.invariant.0, length-drop i es, length-drop (i + 1) es, c.push-reserved.ensures.len, c.push-reserved.ensures.capacity),
-      c.run-line.ensures.fixed ∙ c.loop-entry.invariant.1,
-      outcomes_more K J s t es i _ _ _ _ _ c.loop-entry.invariant.1 c.loop-entry-test.true c.run-line.ensures.outcome c.run-line.ensures.state c.push-reserved.ensures.items c.loop-entry.invariant.2,
-      state_more K J s t es i _ _ c.loop-entry.invariant.1 c.loop-entry-test.true c.run-line.ensures.state c.loop-entry.invariant.3,
+    let t = g.C.CompartmentMachine.state c.run_line.new.machine in (
+      omega (arith, c.loop-entry.invariant.0, length-drop i es, length-drop (i + 1) es, c.push_reserved.ensures.len, c.push_reserved.ensures.capacity),
+      c.run_line.ensures.fixed ∙ c.loop-entry.invariant.1,
+      outcomes_more K J s t es i _ _ _ _ _ c.loop-entry.invariant.1 c.loop-entry-test.true c.run_line.ensures.outcome c.run_line.ensures.state c.push_reserved.ensures.items c.loop-entry.invariant.2,
+      state_more K J s t es i _ _ c.loop-entry.invariant.1 c.loop-entry-test.true c.run_line.ensures.state c.loop-entry.invariant.3,
     )
 
 pub returns : goal.returns

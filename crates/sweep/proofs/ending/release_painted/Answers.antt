@@ -14,10 +14,10 @@ returns-in-default g c = record {
 
 pub loop-i-preserved : goal.loop-i-preserved
 loop-i-preserved g c = (
-  more released_cells (λ _ _ _. refl) (painted_of c.args.quarantine.now) c.loop-i.i c.in-Some.run' _ _ _ c.in-Some.ensures c.release-run.ensures.cells c.loop-i.invariant.0,
-  c.release-run.ensures.mark ∙ c.loop-i.invariant.1,
-  c.release-run.ensures.most ∙ c.loop-i.invariant.2,
-  c.release-run.ensures.size ∙ c.loop-i.invariant.3,
+  more released_cells (λ _ _ _. refl) (painted_of c.args.quarantine.now) c.loop-i.i c.in-Some.run' _ _ _ c.in-Some.ensures c.release_run.ensures.cells c.loop-i.invariant.0,
+  c.release_run.ensures.mark ∙ c.loop-i.invariant.1,
+  c.release_run.ensures.most ∙ c.loop-i.invariant.2,
+  c.release_run.ensures.size ∙ c.loop-i.invariant.3,
 )
 
 pub returns : goal.returns

@@ -20,9 +20,9 @@ loop-i-preserved g c =
     let run = c.in-Some.run' in
     let bytes = g.M.TaggedMemory.bytes c.loop-i.memory in
     let tags = g.M.TaggedMemory.tags c.loop-i.memory in (
-      ap length c.wipe-run.ensures.tags ∙ (length_wiped run tags ∙ c.loop-i.invariant.0),
-      more (wiped_bytes all) (λ _ _ _. refl) rs c.loop-i.i run bytes _ _ c.in-Some.ensures (c.wipe-run.ensures.bytes ∙ ap (λ n. wiped_bytes n (run ∷ []) bytes) c.loop-i.invariant.0) c.loop-i.invariant.1,
-      more wiped_tags (λ _ _ _. refl) rs c.loop-i.i run tags _ _ c.in-Some.ensures c.wipe-run.ensures.tags c.loop-i.invariant.2,
+      ap length c.wipe_run.ensures.tags ∙ (length_wiped run tags ∙ c.loop-i.invariant.0),
+      more (wiped_bytes all) (λ _ _ _. refl) rs c.loop-i.i run bytes _ _ c.in-Some.ensures (c.wipe_run.ensures.bytes ∙ ap (λ n. wiped_bytes n (run ∷ []) bytes) c.loop-i.invariant.0) c.loop-i.invariant.1,
+      more wiped_tags (λ _ _ _. refl) rs c.loop-i.i run tags _ _ c.in-Some.ensures c.wipe_run.ensures.tags c.loop-i.invariant.2,
     )
 
 pub returns : goal.returns

@@ -10,8 +10,8 @@ loop-i-preserved g c =
     let bs = g.M.TaggedMemory.bytes c.args.memory.now in
     let ts = g.M.TaggedMemory.tags c.args.memory.now in
     let at = c.args.from + c.loop-i.i in (
-      c.pass-one.ensures.bytes ∙ c.loop-i.invariant.0,
-      c.pass-one.ensures.tags
+      c.pass_one.ensures.bytes ∙ c.loop-i.invariant.0,
+      c.pass_one.ensures.tags
           ∙ (ap (λ b. swept_tag rs b at (g.M.TaggedMemory.tags c.loop-i.memory)) c.loop-i.invariant.0
           ∙ (ap (swept_tag rs bs at) c.loop-i.invariant.1 ∙ sym (swept_more rs bs c.args.from c.loop-i.i ts))),
     )
