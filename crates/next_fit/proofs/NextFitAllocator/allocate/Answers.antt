@@ -17,12 +17,12 @@ returns c =
     let m = c.args.self.now.mark in
     let n = c.args.n in
     let b = c.in-Some.b in
-    let all = c.count_all.result in
+    let all = c.count-all.result in
     let room = ltb-false all (c.taken-taken.result + n) (sym c.if-exceeds.ensures) in
     let w : b + n ≤ length cs = c.in-Some.ensures.within in
-    let hu : 8 * length us ≡ all = c.count_all.ensures.used (omega arith) in
-    let hf : 8 * length fs ≡ all = c.count_all.ensures.firsts (omega arith) in
-    let fit = c.count_all.ensures.fits (omega arith) in
+    let hu : 8 * length us ≡ all = c.count-all.ensures.used (omega arith) in
+    let hf : 8 * length fs ≡ all = c.count-all.ensures.firsts (omega arith) in
+    let fit = c.count-all.ensures.fits (omega arith) in
     let t = allocating_placed next_fit cs m (length cs) n (b, c.in-Some.mark) (omega arith) (omega arith) c.in-Some.ensures.value in
     let k : map_of c.fill.new.bits c.begin_run.new.firsts ≡ paste cs b (run_of n) n
     = map_allocated us fs c.fill.new.bits c.begin_run.new.firsts b n fit (omega arith) (omega arith) (omega arith) (omega arith) (omega arith) c.fill.ensures c.begin_run.ensures in

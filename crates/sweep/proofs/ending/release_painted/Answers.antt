@@ -4,9 +4,9 @@ use Rattle.sweep.specs.Sweeping.{released_cells}
 use Rattle.sweep.proofs.Endings.{more, ended, ended_all}
 use Rattle.sweep.proofs.ending.release_painted.Goals as goal
 
-pub returns-in-default : goal.returns-in-default
-returns-in-default g c = record {
-  cells = ended released_cells (λ _. refl) (painted_of c.args.quarantine.now) c.loop-i.i _ _ c.in-default.ensures c.loop-i.invariant.0;
+pub returns-in_default : goal.returns-in_default
+returns-in_default g c = record {
+  cells = ended released_cells (λ _. refl) (painted_of c.args.quarantine.now) c.loop-i.i _ _ c.in_default.ensures c.loop-i.invariant.0;
   mark = c.loop-i.invariant.1;
   most = c.loop-i.invariant.2;
   size = c.loop-i.invariant.3;

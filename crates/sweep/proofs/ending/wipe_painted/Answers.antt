@@ -4,13 +4,13 @@ use Rattle.sweep.specs.Sweeping.{wiped_bytes, wiped_tags}
 use Rattle.sweep.proofs.Endings.{more, ended, ended_all, length_wiped}
 use Rattle.sweep.proofs.ending.wipe_painted.Goals as goal
 
-pub returns-in-default : goal.returns-in-default
-returns-in-default g c =
+pub returns-in_default : goal.returns-in_default
+returns-in_default g c =
     let rs = painted_of c.args.quarantine.now in
     let all = length (g.M.TaggedMemory.tags c.args.memory.now) in
     record {
-      bytes = ended (wiped_bytes all) (λ _. refl) rs c.loop-i.i _ _ c.in-default.ensures c.loop-i.invariant.1;
-      tags = ended wiped_tags (λ _. refl) rs c.loop-i.i _ _ c.in-default.ensures c.loop-i.invariant.2;
+      bytes = ended (wiped_bytes all) (λ _. refl) rs c.loop-i.i _ _ c.in_default.ensures c.loop-i.invariant.1;
+      tags = ended wiped_tags (λ _. refl) rs c.loop-i.i _ _ c.in_default.ensures c.loop-i.invariant.2;
     }
 
 pub loop-i-preserved : goal.loop-i-preserved
