@@ -14,5 +14,5 @@ loop-byte-preserved c = search (rules, spelled_more, small_letter)
 pub returns : goal.returns
 returns c = letters_some c.args.text.now _ (search (rules, spelled_all)) (search rules)
 
-pub returns-in-err-permissions : goal.returns-in-err-permissions
-returns-in-err-permissions c = rw c.from-residual.ensures (letters_none c.args.text.now (search (rules, spelled_stop)) (search rules))
+pub returns-in_err-permissions : goal.returns-in_err-permissions
+returns-in_err-permissions c = rw c.from_residual.ensures (letters_none c.args.text.now (search (rules, spelled_stop)) (search rules))

@@ -14,12 +14,12 @@ use Rattle.reader.proofs.line.read_line.Goals as goal
 abbrev so_far : Verb → ℕ → List ℕ → List (List ℕ) → List (List ℕ)
 so_far v i ns ws = name_of v ∷ (operand_texts (take i (kinds_of v)) (take i ns) ++ ws)
 
-pub returns-in-err-verb : goal.returns-in-err-verb
-returns-in-err-verb c =
+pub returns-in_err-verb : goal.returns-in_err-verb
+returns-in_err-verb c =
     let line = c.args.line.now in
     let text = c.word_at-text.result.now in
-    let p = err_from_is_err_and c.from-residual.result c.from-residual.ensures.1 in
-    let known = c.in-err-verb.ensures in
+    let p = err_from_is_err_and c.from_residual.result c.from_residual.ensures.1 in
+    let known = c.in_err-verb.ensures in
     let first = first_cut line text _ c.word_at-text.ensures refl in
     record {
       law = breaks_at line _ 1 _ p.0 c.of_verb.result p.1 (p.2 ∙ known.0) c.of_verb.ensures.line c.of_verb.ensures.word (no_verb line text _ first known.1);
@@ -29,7 +29,7 @@ returns-in-err-verb c =
 pub returns-then-not-goes_on : goal.returns-then-not-goes_on
 returns-then-not-goes_on c =
     let line = c.args.line.now in
-    let v = c.in-ok-verb.verb in
+    let v = c.in_ok-verb.verb in
     let i = c.loop-i.i in
     let ns = c.loop-i.operands in
     let past : length line < c.loop-i.end + 1 = grind (arith, nat_tests, c.if-not-goes_on.ensures) in
@@ -39,17 +39,17 @@ returns-then-not-goes_on c =
       once = reads_once;
     }
 
-pub returns-in-err-operands : goal.returns-in-err-operands
-returns-in-err-operands c =
+pub returns-in_err-operands : goal.returns-in_err-operands
+returns-in_err-operands c =
     let line = c.args.line.now in
-    let v = c.in-ok-verb.verb in
+    let v = c.in_ok-verb.verb in
     let i = c.loop-i.i in
     let ns = c.loop-i.operands in
     let k = c.kind_at.result in
-    let text = c.word_at-text_in-loop-i.result.now in
-    let p = err_from_is_err_and c.from-residual-in-err-operands.result c.from-residual-in-err-operands.ensures.1 in
-    let read = operand_read c.operand.result k text c.of_operand-place.result (Err c.in-err-operands.field-0.0) c.operand.ensures.kind c.operand.ensures.text c.operand.ensures.place c.in-err-operands.ensures in
-    let words = c.loop-i.invariant.0 ∙ ap (so_far v i ns) c.word_at-text_in-loop-i.ensures.words in
+    let text = c.word_at-text-in-loop-i.result.now in
+    let p = err_from_is_err_and c.from_residual-in_err-operands.result c.from_residual-in_err-operands.ensures.1 in
+    let read = operand_read c.operand.result k text c.of_operand-place.result (Err c.in_err-operands.field-0.0) c.operand.ensures.kind c.operand.ensures.text c.operand.ensures.place c.in_err-operands.ensures in
+    let words = c.loop-i.invariant.0 ∙ ap (so_far v i ns) c.word_at-text-in-loop-i.ensures.words in
     record {
       law = breaks_at line _ (i + 2) _ p.0 c.of_operand-place.result p.1 (p.2 ∙ read.0) c.of_operand-place.ensures.line c.of_operand-place.ensures.word
           (wrong_word line v i (take i ns) text _ k words c.loop-i.invariant.1 (omega arith) c.kind_at.ensures read.1);
@@ -59,24 +59,24 @@ returns-in-err-operands c =
 pub loop-i-preserved : goal.loop-i-preserved
 loop-i-preserved c =
     let line = c.args.line.now in
-    let v = c.in-ok-verb.verb in
+    let v = c.in_ok-verb.verb in
     let i = c.loop-i.i in
     let ns = c.loop-i.operands in
     let k = c.kind_at.result in
-    let text = c.word_at-text_in-loop-i.result.now in
-    let x = c.in-ok-operands.field-0 in
-    let read = operand_read c.operand.result k text c.of_operand-place.result (Ok x) c.operand.ensures.kind c.operand.ensures.text c.operand.ensures.place c.in-ok-operands.ensures in
+    let text = c.word_at-text-in-loop-i.result.now in
+    let x = c.in_ok-operands.field-0 in
+    let read = operand_read c.operand.result k text c.of_operand-place.result (Ok x) c.operand.ensures.kind c.operand.ensures.text c.operand.ensures.place c.in_ok-operands.ensures in
     let next : (c.loop-i.end + 1) + (length text + 1) ≡ (c.loop-i.end + (1 + length text)) + 1 = omega arith in
-    let step = c.word_at-text_in-loop-i.ensures.words ∙ ap (λ m. text ∷ words_from line m) next in
+    let step = c.word_at-text-in-loop-i.ensures.words ∙ ap (λ m. text ∷ words_from line m) next in
     let words = c.loop-i.invariant.0 ∙ ap (so_far v i ns) step in
     let six : length ns ≡ 6 = c.loop-i.invariant.3 in
     let a = again line v i ns text _ k x words c.loop-i.invariant.1 (omega arith) (search rules) c.kind_at.ensures read in
-    (a.0, a.1, omega (arith, c.word_at-text_in-loop-i.ensures.within), search rules)
+    (a.0, a.1, omega (arith, c.word_at-text-in-loop-i.ensures.within), search rules)
 
 pub returns-then-goes_on : goal.returns-then-goes_on
 returns-then-goes_on c =
     let line = c.args.line.now in
-    let v = c.in-ok-verb.verb in
+    let v = c.in_ok-verb.verb in
     let i = c.loop-i.i in
     let ns = c.loop-i.operands in
     let inside : c.loop-i.end + 1 ≤ length line = grind (arith, nat_tests, c.if-goes_on.ensures) in
@@ -90,7 +90,7 @@ returns-then-goes_on c =
 pub returns : goal.returns
 returns c =
     let line = c.args.line.now in
-    let v = c.in-ok-verb.verb in
+    let v = c.in_ok-verb.verb in
     let i = c.loop-i.i in
     let ns = c.loop-i.operands in
     let past : length line < c.loop-i.end + 1 = grind (arith, nat_tests, c.if-goes_on.ensures) in

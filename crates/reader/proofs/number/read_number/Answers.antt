@@ -11,5 +11,5 @@ loop-byte-preserved c = search (rules, counted_more, small_digit)
 pub returns : goal.returns
 returns c = number_some c.args.text.now _ (search (rules, counted_all)) (search rules)
 
-pub returns-in-err-number : goal.returns-in-err-number
-returns-in-err-number c = rw c.from-residual.ensures (number_none c.args.text.now (search (rules, counted_stop)))
+pub returns-in_err-number : goal.returns-in_err-number
+returns-in_err-number c = rw c.from_residual.ensures (number_none c.args.text.now (search (rules, counted_stop)))

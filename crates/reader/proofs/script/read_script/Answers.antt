@@ -7,7 +7,7 @@ loop-start-preserved c =
     let r =
     one_read c.args.script.now c.line_at-line.result.now c.loop-start.start.at c.loop-start.start.line c.next-start.result.at c.next-start.result.line
     (vec_items c.loop-start.entries) (vec_items c.push_line.new.entries)
-    c.loop-start.invariant.0 c.line_at-line.ensures c.in-ok-push_line.ensures c.next-start.ensures.at c.next-start.ensures.line
+    c.loop-start.invariant.0 c.line_at-line.ensures c.in_ok-push_line.ensures c.next-start.ensures.at c.next-start.ensures.line
     in
     (r, omega arith, omega arith)
 
