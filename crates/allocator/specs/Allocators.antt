@@ -1,5 +1,5 @@
 -- What an allocator answers, and the map and mark that it has then.
-use Rattle.std.specs.Prelude.{ℕ, ◌+◌, Bool, true, false, cond, List, length, replicate, Some, None, Ok, Err, Option, Result, ◌==◌, nat_lt}
+use Rattle.std.specs.Prelude.{ℕ, ◌+◌, cond, List, replicate, Some, None, Ok, Err, Option, Result, ◌==◌, nat_lt}
 use Rattle.std.proofs.Math.Seq.{paste}
 use Rattle.allocator.specs.declared.fault.AllocatorFault.{AllocatorFault}
 use Rattle.allocator.specs.declared.fault.AllocatorFault.TheVariants.{BadNum, Allowance, NoRun, NotWhole}

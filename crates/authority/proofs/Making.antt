@@ -1,12 +1,12 @@
 -- Capabilities, and permissions of a number, by what they hold.
-use Rattle.std.proofs.Common.{◌≡◌, ℕ, ◌+◌, ◌*◌, ◌/◌, ◌%◌, ◌^◌, ◌<◌, ◌≤◌, Bool, true, false, ltb, leb, Some, None, Option, sym, refl, ap, ◌∙◌, subst, ap₂, arith, MatchOption}
-use Rattle.std.proofs.lemmas.Bool.{ltb-true, leb-true, lt-ltb, le-leb, both_ways, cond-true, and_from}
+use Rattle.std.proofs.Common.{◌≡◌, ℕ, ◌+◌, ◌*◌, ◌/◌, ◌%◌, ◌<◌, ◌≤◌, Bool, true, false, ltb, leb, Some, None, Option, sym, refl, ap, ◌∙◌, subst, ap₂, arith, MatchOption}
+use Rattle.std.proofs.lemmas.Bool.{leb-true, lt-ltb, le-leb, both_ways, cond-true, and_from}
 use Rattle.authority.specs.Spans.{is_within, most_bytes}
 use Rattle.authority.specs.Masks.{all_permissions}
 use Rattle.authority.specs.BoundsMeet.{bounds_between, same_bounds}
 use Rattle.authority.specs.PermissionsMeet.{permissions_from, permissions_if, same_permissions}
 use Rattle.authority.specs.Capabilities.{Authority, base_of, top_of, permissions_of, capability_over, capability_if, capability_of, capability_with, same_capability}
-use Rattle.authority.specs.Images.{word, word_at, image_of, read_image, ImageReadsBack}
+use Rattle.authority.specs.Images.{word, word_at, image_of, ImageReadsBack}
 use Rattle.authority.specs.declared.bounds.Bounds.{Bounds}
 use Rattle.authority.specs.declared.permissions.Permissions.{Permissions}
 use Rattle.authority.specs.declared.capability.Capability.{Capability}

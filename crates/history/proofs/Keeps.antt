@@ -28,7 +28,7 @@ use Rattle.quarantine.specs.declared.run.Run.{Run}
 use Rattle.quarantine.specs.declared.sweep.Sweep.{Sweep}
 use Rattle.quarantine.specs.declared.sweep.Sweep.TheVariants.{Idle, Open}
 use Rattle.history.specs.Isolation.{Group, GivesApart, Outside, is_ours, is_struck}
-use Rattle.history.specs.Ledgers.{Entry, Grant, Ledger, granted as noted_grant, loaded as noted_load, note, noted, slot, stored, with_entry, with_granule}
+use Rattle.history.specs.Ledgers.{Entry, Ledger, granted as noted_grant, loaded as noted_load, note, noted, slot, stored, with_entry, with_granule}
 use Rattle.history.proofs.Base.{err_ok, no_yes, ok_same, some_none, some_same}
 use Rattle.history.proofs.Both.{core_byte, core_cap, core_end, core_grant, core_paint, core_pass, core_reg, core_shut, core_wait, granule_alike}
 use Rattle.history.proofs.Changes.{idle_open, inv_pass, open_same, whole_made}

@@ -1,24 +1,21 @@
 -- When runs become free.
-use Rattle.std.proofs.Common.{◌≡◌, ℕ, ◌+◌, ◌-◌, ◌*◌, ◌/◌, ◌<◌, ◌≤◌, Bool, true, false, cond, eqb, ◌⊎◌, List, [], ◌∷◌, ◌++◌, length, get_or, Some, None, Ok, Err, Option, sym, refl, ap, ◌∙◌, subst, inl, inr, add-zero, arith}
+use Rattle.std.proofs.Common.{◌≡◌, ℕ, ◌+◌, ◌-◌, ◌<◌, ◌≤◌, Bool, true, false, cond, eqb, ◌⊎◌, List, [], ◌∷◌, ◌++◌, length, get_or, Ok, sym, refl, ap, ◌∙◌, subst, inl, inr, add-zero, arith}
 use Rattle.std.proofs.lemmas.List.{append_assoc, append-nil, get_or_default}
-use Rattle.std.proofs.lemmas.Bool.{cases_Bool, cond-true, cond-false, or_cases}
-use Rattle.std.proofs.lemmas.Bool.Decides.{nat_tests}
-use Rattle.allocator.specs.Maps.{Cell, first, free, rest, FreeAt}
-use Rattle.authority.specs.Capabilities.{base_of, top_of}
-use Rattle.authority.specs.declared.capability.Capability.{Capability}
+use Rattle.std.proofs.lemmas.Bool.{cases_Bool, cond-true, cond-false}
+use Rattle.allocator.specs.Maps.{first, free, rest, FreeAt}
+use Rattle.authority.specs.Capabilities.{base_of}
 use Rattle.machine.specs.Calls.{Call}
-use Rattle.machine.specs.Model.{Effect, Fixed, State, accepted, denied, fresh_state, outcome, state_after, with_ended}
+use Rattle.machine.specs.Model.{Effect, Fixed, State, fresh_state, outcome, state_after}
 use Rattle.machine.specs.Rules.{perform}
-use Rattle.machine.specs.Runs.{in_run, in_runs}
+use Rattle.machine.specs.Runs.{in_runs}
 use Rattle.quarantine.specs.declared.run.Run.{Run}
-use Rattle.quarantine.specs.declared.sweep.Sweep.{Sweep}
-use Rattle.quarantine.specs.declared.sweep.Sweep.TheVariants.{Idle, Open}
-use Rattle.history.specs.Histories.{Outcome, Sized, after, answer_to, outcomes, outcomes_of, state_after_all}
-use Rattle.history.specs.Ledgers.{Grant, Ledger, empty_ledger, note, noted_all}
+use Rattle.quarantine.specs.declared.sweep.Sweep.TheVariants.{Open}
+use Rattle.history.specs.Histories.{Sized, after, answer_to, outcomes, state_after_all}
+use Rattle.history.specs.Ledgers.{Ledger, empty_ledger, note, noted_all}
 use Rattle.history.specs.Provenance.{ledger}
-use Rattle.history.specs.Release.{AllFree, FreedBySweep, InRun, IsFree, IsNoShut, MemoryReturnsWhenTheSweepEnds, NoShut, NoShuts, NoneFree, Returns, Waits, granules_named, granules_named_in, granules_since, outcomes_since, run_from, step_size}
-use Rattle.history.proofs.Base.{Among, within, among_append, among_left, among_right, err_ok, no_yes, ok_same, within_true}
-use Rattle.history.proofs.Invariant.{AllLive, Inv, Live, part}
+use Rattle.history.specs.Release.{FreedBySweep, IsFree, MemoryReturnsWhenTheSweepEnds, NoShut, NoShuts, NoneFree, Returns, Waits, granules_named, granules_named_in, granules_since, outcomes_since, run_from}
+use Rattle.history.proofs.Base.{Among, within, among_append, among_left, among_right, err_ok, ok_same, within_true}
+use Rattle.history.proofs.Invariant.{Inv, Live}
 use Rattle.history.proofs.Changes.{painted_released}
 use Rattle.history.proofs.Laws.{get_taken, made_base}
 use Rattle.history.proofs.Live.{among_in, in_among, live_taken}

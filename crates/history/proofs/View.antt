@@ -1,24 +1,23 @@
 -- What each call comes to: a denial, or a change under its conditions.
-use Rattle.std.proofs.Common.{◌≡◌, ℕ, zero, suc, ◌+◌, ◌-◌, ◌*◌, ◌/◌, ◌%◌, ◌<◌, ◌≤◌, Bool, true, false, cond, not, ◌&&◌, ◌||◌, eqb, ltb, leb, List, [], ◌∷◌, ◌++◌, length, get_or, Some, None, Ok, Err, Option, Result, sym, refl, ap, ◌∙◌, subst, arith}
+use Rattle.std.proofs.Common.{◌≡◌, ℕ, ◌+◌, ◌-◌, ◌*◌, ◌/◌, ◌%◌, ◌<◌, ◌≤◌, Bool, true, false, cond, ◌&&◌, eqb, ltb, leb, length, get_or, Some, None, Ok, Err, Option, Result, sym, refl, ap, subst}
 use lib.Seq.{paste}
 use Rattle.std.proofs.lemmas.Bool.{and_parts, eqb-true, leb-false, leb-true, ltb-true, not-true}
 use Rattle.allocator.specs.Allocators.{Allocation, allocating, denied_by, placed}
 use Rattle.allocator.specs.declared.fault.AllocatorFault.TheVariants as A
-use Rattle.allocator.specs.Maps.{Cell, run_length, run_of, taken_in}
-use Rattle.authority.specs.Capabilities.{base_of, capability_of, permissions_of, top_of}
+use Rattle.allocator.specs.Maps.{run_length, run_of, taken_in}
+use Rattle.authority.specs.Capabilities.{base_of, capability_of, permissions_of}
 use Rattle.authority.specs.Masks.{all_permissions, allows}
 use Rattle.authority.specs.PermissionsMeet.{permissions_from}
 use Rattle.authority.specs.declared.capability.Capability.{Capability}
 use Rattle.authority.specs.declared.permission.Permission.TheVariants as P
 use Rattle.authority.specs.declared.permissions.Permissions.{Permissions}
-use Rattle.memory.specs.Memories.{byte_read, capability_stored, change_at, granule_at, granule_read}
+use Rattle.memory.specs.Memories.{granule_at, granule_read}
 use Rattle.memory.specs.declared.fault.MemoryFault.{MemoryFault}
 use Rattle.memory.specs.declared.fault.MemoryFault.TheVariants as T
-use Rattle.memory.specs.declared.granule.Granule.{Granule}
 use Rattle.machine.specs.Answers.{granule_answer, length_of}
 use Rattle.machine.specs.Calls.{Call}
 use Rattle.machine.specs.Model.{Fixed, State, Effect, denied, accepted, register_at, with_register, with_map, with_byte, with_capability, with_waiting, with_painted, with_passed, with_ended, with_shut}
-use Rattle.machine.specs.Rules.{perform, unless, held, vacant, permitted, by_memory, at_granule, granted, narrowed, loaded, derived, derived_with, is_revoked, is_whole, run_under, open_rule, stepped, shut_rule, is_register, is_operand}
+use Rattle.machine.specs.Rules.{perform, unless, held, vacant, permitted, by_memory, at_granule, granted, narrowed, loaded, derived, derived_with, is_revoked, run_under, open_rule, stepped, shut_rule, is_register, is_operand}
 use Rattle.machine.specs.Runs.{begins_at}
 use Rattle.machine.specs.declared.fault.MachineFault.{MachineFault}
 use Rattle.machine.specs.declared.fault.MachineFault.TheVariants.{Align, Bounds, NoCap, Perm}

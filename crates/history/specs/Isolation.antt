@@ -1,5 +1,5 @@
 -- A group of compartments cannot interfere with the others.
-use Rattle.std.specs.Prelude.{◌≡◌, ℕ, ◌/◌, ◌<◌, Bool, true, false, cond, List, [], ◌∷◌, Some, slice_index, slice_index_or}
+use Rattle.std.specs.Prelude.{◌≡◌, ℕ, ◌/◌, ◌<◌, Bool, false, cond, List, [], ◌∷◌, Some, slice_index, slice_index_or}
 use Rattle.machine.specs.Calls.{Call}
 use Rattle.machine.specs.Model.{Fixed, compartment_count, register_at, register_count}
 use Rattle.history.specs.Histories.{Outcome, Sized, after, outcomes_of}

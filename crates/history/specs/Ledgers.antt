@@ -1,5 +1,5 @@
 -- The provenance ledger: what calls and outcomes alone tell of capabilities, of the grants that they descend from, and of each byte's latest grant.
-use Rattle.std.specs.Prelude.{ℕ, suc, ◌+◌, ◌*◌, ◌/◌, Bool, cond, ◌&&◌, List, [], ◌∷◌, Some, None, Ok, Err, Option, ◌==◌, nat_le, nat_lt}
+use Rattle.std.specs.Prelude.{ℕ, suc, ◌+◌, ◌*◌, ◌/◌, cond, ◌&&◌, List, [], ◌∷◌, Some, None, Ok, Err, Option, ◌==◌, nat_le, nat_lt}
 use Rattle.authority.specs.Capabilities.{base_of, capability_of, top_of}
 use Rattle.authority.specs.Masks.{all_permissions}
 use Rattle.authority.specs.declared.capability.Capability.{Capability}

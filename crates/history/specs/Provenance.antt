@@ -8,7 +8,7 @@ use Rattle.authority.specs.declared.permission.Permission.TheVariants as P
 use Rattle.machine.specs.Calls.{Call}
 use Rattle.machine.specs.Model.{Fixed, State, register_at}
 use Rattle.history.specs.Histories.{Sized, after, answer_to, outcomes_of}
-use Rattle.history.specs.Ledgers.{Entry, Grant, Ledger, empty_ledger, noted_all, slot}
+use Rattle.history.specs.Ledgers.{Grant, Ledger, empty_ledger, noted_all, slot}
 
 -- the ledger of a history
 abbrev pub ledger : Fixed → List Call → Ledger

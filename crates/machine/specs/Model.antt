@@ -1,5 +1,5 @@
 -- The model of a machine: what changes with calls, and what is fixed from construction on.
-use Rattle.std.specs.Prelude.{ℕ, ◌+◌, ◌*◌, ◌/◌, Bool, true, false, List, [], ◌∷◌, ◌++◌, length, get_or, set, replicate, Some, None, Ok, Err, Option, Result, slice_index_or, slice_set}
+use Rattle.std.specs.Prelude.{ℕ, ◌+◌, ◌*◌, ◌/◌, Bool, true, false, List, [], ◌∷◌, ◌++◌, length, get_or, replicate, Some, None, Ok, Err, Option, Result, slice_index_or, slice_set}
 use Rattle.allocator.specs.Maps.{Cell, Rule, Lawful, free}
 use Rattle.authority.specs.declared.capability.Capability.{Capability}
 use Rattle.memory.specs.Memories.{with_image}

@@ -1,5 +1,5 @@
 -- The rules of the calls: their checks in order, and what an accepted call answers and changes.
-use Rattle.std.specs.Prelude.{ℕ, ◌+◌, ◌-◌, ◌*◌, ◌/◌, ◌%◌, Bool, true, false, cond, not, ◌&&◌, List, [], length, Some, None, Ok, Err, Option, Result, ◌==◌, nat_le, nat_lt}
+use Rattle.std.specs.Prelude.{ℕ, ◌+◌, ◌-◌, ◌*◌, ◌/◌, ◌%◌, Bool, false, cond, not, ◌&&◌, List, length, Some, None, Ok, Err, Option, Result, ◌==◌, nat_le, nat_lt}
 use Rattle.allocator.specs.Allocators.{Allocation, allocating}
 use Rattle.allocator.specs.Maps.{run_length}
 use Rattle.allocator.specs.declared.fault.AllocatorFault.{AllocatorFault}
@@ -12,7 +12,6 @@ use Rattle.authority.specs.declared.permission.Permission.TheVariants.{Load, Sto
 use Rattle.authority.specs.declared.permissions.Permissions.{Permissions}
 use Rattle.memory.specs.Memories.{byte_read, capability_stored, change_at, granule_read}
 use Rattle.memory.specs.declared.fault.MemoryFault.{MemoryFault}
-use Rattle.memory.specs.declared.granule.Granule.{Granule}
 use Rattle.machine.specs.Answers.{granule_answer, length_of}
 use Rattle.machine.specs.Calls.{Call}
 use Rattle.machine.specs.Faults.{from_memory}
@@ -23,7 +22,7 @@ use Rattle.quarantine.specs.declared.run.Run.{Run}
 use Rattle.quarantine.specs.declared.sweep.Sweep.{Sweep}
 use Rattle.quarantine.specs.declared.sweep.Sweep.TheVariants.{Idle, Open}
 use Rattle.machine.specs.declared.fault.MachineFault.{MachineFault}
-use Rattle.machine.specs.declared.fault.MachineFault.TheVariants.{BadNum, Empty, Perm, Bounds, Align, NoCap, NotWhole, Nothing, FullReg, Sizes, Quarantine, Allocator}
+use Rattle.machine.specs.declared.fault.MachineFault.TheVariants.{BadNum, Empty, Perm, Bounds, NoCap, NotWhole, Nothing, FullReg, Sizes, Quarantine, Allocator}
 
 -- a check: denied unless it holds
 abbrev pub unless : Bool → MachineFault → Effect → Effect

@@ -1,5 +1,5 @@
 -- What a tagged memory answers, and what it holds afterwards, by its bytes and its tags.
-use Rattle.std.specs.Prelude.{ℕ, ◌+◌, ◌-◌, ◌*◌, ◌/◌, ◌<◌, ◌≤◌, Bool, true, false, cond, ◌&&◌, List, [], ◌∷◌, ◌++◌, length, replicate, Some, None, Ok, Err, Option, Result, nat_le, nat_lt, slice_index, slice_index_or}
+use Rattle.std.specs.Prelude.{ℕ, ◌+◌, ◌*◌, Bool, false, cond, ◌&&◌, List, length, Some, None, Ok, Err, Option, Result, nat_le, nat_lt, slice_index, slice_index_or}
 use Rattle.std.proofs.Math.Seq.{paste}
 use Rattle.authority.specs.Capabilities.{capability_of, top_of}
 use Rattle.authority.specs.Images.{image_of, word_at}

@@ -1,6 +1,6 @@
 -- Moving a middle part of a list to its front, one element after another.
 use Rattle.std.proofs.Common.{◌≡◌, ℕ, ◌+◌, ◌-◌, ◌<◌, ◌≤◌, List, [], ◌∷◌, ◌++◌, length, get_or, take, drop, set, sym, ap, ◌∙◌, arith}
-use Rattle.std.proofs.lemmas.List.{length-take, length-drop, length-take-le, get_or-take, get_or-drop, get_or_default, take_all, take_more, take_more_set, drop-drop, drop-set-lt}
+use Rattle.std.proofs.lemmas.List.{length-drop, length-take-le, get_or-take, get_or-drop, take_all, take_more, take_more_set, drop-drop, drop-set-lt}
 
 pub moved_more : {X : Type 0} (rs es : List X) (first end i : ℕ) (v d : X) → first + i < end → end ≤ length es → length rs ≡ length es → take i rs ≡ take i (drop first (take end es)) → drop i rs ≡ drop i es → v ≡ get_or rs (first + i) d → (take (i + 1) (set rs i v) ≡ take (i + 1) (drop first (take end es))) × (drop (i + 1) (set rs i v) ≡ drop (i + 1) es)
 moved_more {X = X} rs es first end i v d below within same front back read =

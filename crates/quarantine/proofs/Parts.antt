@@ -1,6 +1,6 @@
 -- The painted and the waiting part of the list of runs.
 use Rattle.std.proofs.Common.{◌≡◌, ℕ, ◌+◌, ◌-◌, ◌<◌, ◌≤◌, List, [], ◌∷◌, ◌++◌, length, get_or, take, drop, set, Some, None, sym, ap, ◌∙◌, arith}
-use Rattle.std.proofs.lemmas.List.{length-drop, length-take-le, get_or-take, take-append-drop, take_more_set, take-set-le, take-take, drop_all, drop-append-le, drop-take}
+use Rattle.std.proofs.lemmas.List.{length-drop, length-take-le, get_or-take, take-append-drop, take_more_set, take-take, drop_all, drop-append-le, drop-take}
 use Rattle.std.proofs.lemmas.Option.{slice_get-get_or, slice_get_past}
 use Rattle.std.specs.List.{slice_get}
 

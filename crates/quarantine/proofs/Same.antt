@@ -1,5 +1,5 @@
 -- Two quarantines with the same fields are the same.
-use Rattle.std.proofs.Common.{◌≡◌, ◌≤◌, Bool, true, List, length, take, sym, refl}
+use Rattle.std.proofs.Common.{◌≡◌, ◌≤◌, true, length, take}
 use mathlib.Core.Bool.{Bool-set}
 use mathlib.Core.HLevel.{is_prop→PathP}
 use mathlib.Core.List.{is_set}

@@ -1,5 +1,5 @@
 -- The model of the quarantine: which runs are painted, which wait, and the sweep; and what each call makes of them.
-use Rattle.std.specs.Prelude.{ℕ, ◌+◌, ◌-◌, Bool, cond, List, [], ◌∷◌, ◌++◌, length, take, drop, Ok, Err, Result, nat_le, nat_lt}
+use Rattle.std.specs.Prelude.{ℕ, ◌+◌, ◌-◌, cond, List, [], ◌++◌, length, take, drop, Ok, Err, Result, nat_le, nat_lt}
 use Rattle.quarantine.specs.Runs.{begins_at, most_runs}
 use Rattle.quarantine.specs.declared.Quarantine.{Quarantine}
 use Rattle.quarantine.specs.declared.fault.QuarantineFault.{QuarantineFault}

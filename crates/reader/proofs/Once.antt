@@ -2,7 +2,7 @@
 use Rattle.std.proofs.Common.{◌≡◌, ℕ, ◌+◌, ◌-◌, ◌<◌, ◌≤◌, List, ◌++◌, length, take, drop, Ok, Err, sym, ap, ◌∙◌, ⊎_elim, arith}
 use Rattle.std.proofs.lemmas.List.{take-append-drop, append_assoc, take-take}
 use Rattle.std.proofs.lemmas.Bool.{cases_order}
-use Rattle.reader.specs.Lines.{split, Begins, Wrong, Reads, ReadsOnce}
+use Rattle.reader.specs.Lines.{split, Begins, Wrong, ReadsOnce}
 use Rattle.reader.proofs.Calls.{split_text, words_once}
 
 -- there is only one first wrong word

@@ -1,6 +1,5 @@
-use Rattle.std.proofs.Common.{◌≡◌, ◌+◌, ◌<◌, ◌≤◌, true, [], ◌∷◌, ◌++◌, length, take, drop, set, sym, refl, ap, ◌∙◌, arith}
+use Rattle.std.proofs.Common.{◌≡◌, ◌+◌, ◌<◌, ◌≤◌, take, drop, set, sym, refl, ap, ◌∙◌, arith}
 use Rattle.std.proofs.lemmas.List.{length-set, take-set-le}
-use Rattle.quarantine.specs.Kept.{painted_of, waiting_of}
 use Rattle.quarantine.specs.Runs.{shadow_of}
 use Rattle.quarantine.specs.Sweeps.{is_at_rest}
 use Rattle.quarantine.proofs.Parts.{part_joined}

@@ -1,9 +1,7 @@
-use Rattle.std.proofs.Common.{◌≡◌, ℕ, true, List, [], ◌++◌, take, drop, sym, ap, ◌∙◌, arith}
+use Rattle.std.proofs.Common.{◌≡◌, [], take, drop, sym, ap, ◌∙◌, arith}
 use Rattle.std.proofs.lemmas.Bool.{eqb-true}
-use Rattle.quarantine.specs.Kept.{painted_of, waiting_of}
+use Rattle.quarantine.specs.Kept.{waiting_of}
 use Rattle.quarantine.specs.Sweeps.{is_at_rest}
-use Rattle.quarantine.specs.declared.run.Run.{Run}
-use Rattle.quarantine.specs.declared.sweep.Sweep.TheVariants.{Idle, Open}
 use Rattle.quarantine.proofs.Parts.{part_none}
 use Rattle.quarantine.proofs.Quarantine.paint_waiting.Goals as goal
 

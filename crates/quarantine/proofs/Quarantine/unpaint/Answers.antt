@@ -1,6 +1,5 @@
-use Rattle.std.proofs.Common.{◌≡◌, List, [], ◌++◌, take, drop, ap, ◌∙◌, arith}
+use Rattle.std.proofs.Common.{◌≡◌, [], ◌++◌, take, drop, ap, ◌∙◌}
 use Rattle.quarantine.specs.Kept.{painted_of, waiting_of}
-use Rattle.quarantine.specs.declared.run.Run.{Run}
 use Rattle.quarantine.specs.declared.sweep.Sweep.TheVariants.{Idle}
 use Rattle.quarantine.proofs.Parts.{parts_joined}
 use Rattle.quarantine.proofs.Quarantine.unpaint.Goals as goal

@@ -1,4 +1,4 @@
-use Rattle.std.proofs.Common.{◌+◌, min, true, get_or, sym, refl, ap, ◌∙◌, arith}
+use Rattle.std.proofs.Common.{◌+◌, min, true, get_or, refl, ap, ◌∙◌, arith}
 use Rattle.std.proofs.lemmas.List.{take_all}
 use Rattle.bits.specs.Bits.{filled}
 use Rattle.quarantine.specs.Runs.{shadow_of}

@@ -1,4 +1,4 @@
-use Rattle.std.proofs.Common.{◌≡◌, [], ◌∷◌, length, refl, ap, ◌∙◌, arith}
+use Rattle.std.proofs.Common.{[], ◌∷◌, length, refl, ap, ◌∙◌, arith}
 use Rattle.quarantine.specs.Kept.{painted_of}
 use Rattle.sweep.specs.Sweeping.{wiped_bytes, wiped_tags}
 use Rattle.sweep.proofs.Endings.{more, ended, ended_all, length_wiped}

@@ -1,4 +1,3 @@
-use Rattle.std.proofs.Common.{sym, ◌∙◌}
 use Rattle.authority.specs.BoundsMeet.{meet_bounds, same_bounds}
 use Rattle.authority.proofs.meet.BoundsMeetSemilattice.meet.Goals as goal
 
