@@ -15,11 +15,10 @@ import sys
 
 TOP = os.getcwd()
 SIGNATURE = re.compile(r"^\s*(?:(?:abbrev|unfoldable|pub|axiom)\s+)*(?:(record|data)\s+)?([^\s(){}\[\].;,:]+)(?:\s+[({].*?)?\s+:(?:\s+(.*))?$")
-ALIAS = re.compile(r"\bas\s+([^\s(){}\[\].;,:]+-[^\s(){}\[\].;,:]*)")
+ALIAS = re.compile(r"\bas\s+([^\s(){}\[\].;,:]+)")
 MADE = re.compile(r"^(?:goal|given|need)\.")
 TOKEN = re.compile(r"[^\s(){}\[\].;,:`]+")
-# names that would fall together with another, or that spell a word which has another name now
-CHOSEN = {}
+CAMEL = re.compile(r"[a-z][a-z0-9]*(?:[A-Z][a-z0-9]*)+$")
 
 
 def files(*ends):
@@ -36,9 +35,9 @@ def read(path):
 
 
 def respelled(name):
-    if name in CHOSEN:
-        return CHOSEN[name]
     name = name.replace("getD", "get_or")
+    if CAMEL.match(name):
+        return re.sub(r"[A-Z]", lambda m: "_" + m.group(0).lower(), name)
     if "-" not in name:
         return name
     parts = name.split("-")
@@ -55,7 +54,12 @@ def declared():
             m = SIGNATURE.match(line)
             if m:
                 (made if MADE.match(m.group(3) or "") else names).add(m.group(2))
-            names.update(ALIAS.findall(line))
+            if line.lstrip().startswith(("use ", "pub use ")):
+                names.update(ALIAS.findall(line))
+    for path in files(".rt"):
+        for line in read(path).split("\n"):
+            if line.startswith("ghost use "):
+                names.update(ALIAS.findall(line))
     return names - made
 
 

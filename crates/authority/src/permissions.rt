@@ -1,5 +1,5 @@
 ghost use Rattle.std.specs.Prelude.{◌≡◌, ◌≤◌, None, MatchOption, bit_and};
-ghost use Rattle.authority.specs.Masks.{all_permissions, allows as isAllowed, bit_of};
+ghost use Rattle.authority.specs.Masks.{all_permissions, allows as is_allowed, bit_of};
 
 use crate::permission::Permission;
 
@@ -51,7 +51,7 @@ impl Permissions {
     }
 
     pub fn allows(self, permission: Permission) -> bool
-        ensures { result ≡ isAllowed self.bits permission }
+        ensures { result ≡ is_allowed self.bits permission }
     {
         self.bits & permission.bit() != 0
     }

@@ -1,6 +1,6 @@
 ghost use Rattle.machine.specs.Calls.{call_of};
 ghost use Rattle.machine.specs.Model.{Fixed, State, outcome, state_after};
-ghost use Rattle.machine.specs.Rules.{derive_rule, drop_rule, getb_rule, getc_rule, give_rule, grant_rule, perform as perform-rule, putb_rule, putc_rule};
+ghost use Rattle.machine.specs.Rules.{derive_rule, drop_rule, getb_rule, getc_rule, give_rule, grant_rule, perform as perform_rule, putb_rule, putc_rule};
 ghost use Rattle.std.specs.Prelude.{◌≡◌, false, is_ok};
 
 use crate::fault::MachineFault;
@@ -103,8 +103,8 @@ pub trait CompartmentMachine {
 
     // Makes any call.
     fn perform(&mut self, call: Call) -> Result<u32, MachineFault>
-        ensures answer { result ≡ outcome (perform-rule (fixed self.old) (state self.old) (call_of call)) }
-        ensures state { state self.new ≡ state_after (state self.old) (perform-rule (fixed self.old) (state self.old) (call_of call)) }
+        ensures answer { result ≡ outcome (perform_rule (fixed self.old) (state self.old) (call_of call)) }
+        ensures state { state self.new ≡ state_after (state self.old) (perform_rule (fixed self.old) (state self.old) (call_of call)) }
         ensures fixed { fixed self.new ≡ fixed self.old }
         ensures denied { is_ok result ≡ false → self.new ≡ self.old }
     {
