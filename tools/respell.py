@@ -3,8 +3,9 @@
 
 usage: python3 tools/respell.py [--list]      at the top of a checkout, once, after the kit's port.py
 
-It collects each name with a dash that a file of specs/ or proofs/ declares (answers to goals of the check are left, since the
-check makes their names) and each field and constructor, and respells every whole token that is such a name in .rt and .antt files,
+It collects each name that a file of specs/ or proofs/ declares, fields and constructors too, and each name that an import gives
+(answers to goals of the check are left, since the check makes their names). Of these it takes the names with a dash, the words in
+camel case and those with an old `getD` in them, and respells every whole token that is such a name in .rt and .antt files,
 in must-fail edits, and between backticks in pages. `--list` prints the names and what they become, and changes nothing.
 It stops if two names would fall together.
 """
