@@ -1,5 +1,5 @@
 // Why an allocator denies.
-#[derive(Clone, Copy)]
+#[derive(Clone, Copy, Debug, PartialEq, Eq)]
 pub enum AllocatorFault {
     BadNum,
     NotWhole,

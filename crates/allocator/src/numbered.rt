@@ -1,15 +1,15 @@
 ghost use Rattle.allocator.specs.Faults.{allocator_denial};
-ghost use Rattle.denial.specs.Numbers.{number_of};
 ghost use Rattle.denial.specs.declared.Layer.TheVariants.{Allocator as AllocatorLayer};
-ghost use Rattle.std.specs.Prelude.{◌≡◌};
 
 use crate::fault::AllocatorFault;
-use denial::{Denial, Layer};
+use denial::{Denial, Fault, Layer};
 
-impl AllocatorFault {
-    pub fn denial(self) -> Denial
-        ensures { result ≡ allocator_denial self }
-    {
+impl Fault for AllocatorFault {
+    ghost denial_of = { allocator_denial };
+
+    ghost layer_of = { λ _. AllocatorLayer };
+
+    fn denial(self) -> Denial {
         match self {
             AllocatorFault::BadNum => Denial::BadNum,
             AllocatorFault::NotWhole => Denial::NotWhole,
@@ -19,15 +19,7 @@ impl AllocatorFault {
         }
     }
 
-    pub fn code(self) -> u8
-        ensures { result ≡ number_of (allocator_denial self) }
-    {
-        self.denial().number()
-    }
-
-    pub fn layer(self) -> Layer
-        ensures { result ≡ AllocatorLayer }
-    {
+    fn layer(self) -> Layer {
         Layer::Allocator
     }
 }

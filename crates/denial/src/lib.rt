@@ -2,12 +2,14 @@
 #![tactic(auto)]
 
 ghost use Rattle.denial.specs.Numbers.{number_of, letter_of};
+ghost use Rattle.denial.specs.declared.Denial.{Denial};
+ghost use Rattle.denial.specs.declared.Layer.{Layer};
 ghost use Rattle.std.specs.Prelude.{◌≡◌};
 
-// Why a call is denied.
-#[derive(Clone, Copy)]
+// Why a call is denied. The numbers are those that are printed.
+#[derive(Clone, Copy, Debug, PartialEq, Eq)]
 pub enum Denial {
-    BadNum,
+    BadNum = 1,
     Empty,
     Perm,
     Bounds,
@@ -32,32 +34,12 @@ impl Denial {
     pub fn number(self) -> u8
         ensures { result ≡ number_of self }
     {
-        match self {
-            Denial::BadNum => 1,
-            Denial::Empty => 2,
-            Denial::Perm => 3,
-            Denial::Bounds => 4,
-            Denial::Align => 5,
-            Denial::NoCap => 6,
-            Denial::Revoked => 7,
-            Denial::NotWhole => 8,
-            Denial::Freed => 9,
-            Denial::QFull => 10,
-            Denial::Allowance => 11,
-            Denial::NoRun => 12,
-            Denial::Nothing => 13,
-            Denial::FullReg => 14,
-            Denial::Open => 15,
-            Denial::NoSweep => 16,
-            Denial::Idle => 17,
-            Denial::Text => 18,
-            Denial::Sizes => 19,
-        }
+        self as u8
     }
 }
 
 // Which part of the runtime denied.
-#[derive(Clone, Copy)]
+#[derive(Clone, Copy, Debug, PartialEq, Eq)]
 pub enum Layer {
     Memory,
     Machine,
@@ -77,5 +59,25 @@ impl Layer {
             Layer::Allocator => 'A',
             Layer::Reader => 'R',
         }
+    }
+}
+
+// Why a part of the runtime denies: which denial it is, and which part it comes from.
+pub trait Fault: Copy {
+    ghost denial_of: { Self → Denial };
+
+    ghost layer_of: { Self → Layer };
+
+    fn denial(self) -> Denial
+        ensures { result ≡ denial_of self };
+
+    fn layer(self) -> Layer
+        ensures { result ≡ layer_of self };
+
+    // The number of its denial.
+    fn code(self) -> u8
+        ensures { result ≡ number_of (denial_of self) }
+    {
+        self.denial().number()
     }
 }

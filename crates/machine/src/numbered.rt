@@ -1,17 +1,18 @@
-ghost use Rattle.denial.specs.Numbers.{number_of};
 ghost use Rattle.machine.specs.Faults.{from_memory, machine_denial, machine_layer};
 ghost use Rattle.machine.specs.declared.fault.MachineFault.TheVariants.{Allocator as AllocatorCase};
 ghost use Rattle.std.specs.Prelude.{◌≡◌};
 
 use crate::fault::MachineFault;
 use allocator::fault::AllocatorFault;
-use denial::{Denial, Layer};
+use denial::{Denial, Fault, Layer};
 use memory::fault::MemoryFault;
 
-impl MachineFault {
-    pub fn denial(self) -> Denial
-        ensures { result ≡ machine_denial self }
-    {
+impl Fault for MachineFault {
+    ghost denial_of = { machine_denial };
+
+    ghost layer_of = { machine_layer };
+
+    fn denial(self) -> Denial {
         match self {
             MachineFault::BadNum => Denial::BadNum,
             MachineFault::Empty => Denial::Empty,
@@ -28,15 +29,7 @@ impl MachineFault {
         }
     }
 
-    pub fn code(self) -> u8
-        ensures { result ≡ number_of (machine_denial self) }
-    {
-        self.denial().number()
-    }
-
-    pub fn layer(self) -> Layer
-        ensures { result ≡ machine_layer self }
-    {
+    fn layer(self) -> Layer {
         match self {
             MachineFault::Quarantine(fault) => fault.layer(),
             MachineFault::Allocator(fault) => fault.layer(),

@@ -1,5 +1,5 @@
 // Why a memory denies.
-#[derive(Clone, Copy)]
+#[derive(Clone, Copy, Debug, PartialEq, Eq)]
 pub enum MemoryFault {
     Bounds,
     BadNum,

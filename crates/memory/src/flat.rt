@@ -229,6 +229,7 @@ impl<'a> TaggedMemory for Flat<'a> {
 #[cfg(test)]
 mod tests {
     use super::*;
+    use denial::Fault;
     use std::test::Fail;
 
     #[test]

@@ -1,15 +1,15 @@
-ghost use Rattle.denial.specs.Numbers.{number_of};
 ghost use Rattle.denial.specs.declared.Layer.TheVariants.{Memory};
 ghost use Rattle.memory.specs.Faults.{memory_denial};
-ghost use Rattle.std.specs.Prelude.{◌≡◌};
 
 use crate::fault::MemoryFault;
-use denial::{Denial, Layer};
+use denial::{Denial, Fault, Layer};
 
-impl MemoryFault {
-    pub fn denial(self) -> Denial
-        ensures { result ≡ memory_denial self }
-    {
+impl Fault for MemoryFault {
+    ghost denial_of = { memory_denial };
+
+    ghost layer_of = { λ _. Memory };
+
+    fn denial(self) -> Denial {
         match self {
             MemoryFault::Bounds => Denial::Bounds,
             MemoryFault::BadNum => Denial::BadNum,
@@ -17,15 +17,7 @@ impl MemoryFault {
         }
     }
 
-    pub fn code(self) -> u8
-        ensures { result ≡ number_of (memory_denial self) }
-    {
-        self.denial().number()
-    }
-
-    pub fn layer(self) -> Layer
-        ensures { result ≡ Memory }
-    {
+    fn layer(self) -> Layer {
         Layer::Memory
     }
 }

@@ -1,5 +1,5 @@
 // Why the quarantine denies.
-#[derive(Clone, Copy)]
+#[derive(Clone, Copy, Debug, PartialEq, Eq)]
 pub enum QuarantineFault {
     Revoked,
     Freed,

@@ -1,15 +1,15 @@
-ghost use Rattle.denial.specs.Numbers.{number_of};
-ghost use Rattle.denial.specs.declared.Layer.TheVariants.{Quarantine};
+ghost use Rattle.denial.specs.declared.Layer.TheVariants.{Quarantine as QuarantineLayer};
 ghost use Rattle.quarantine.specs.Faults.{quarantine_denial};
-ghost use Rattle.std.specs.Prelude.{◌≡◌};
 
 use crate::fault::QuarantineFault;
-use denial::{Denial, Layer};
+use denial::{Denial, Fault, Layer};
 
-impl QuarantineFault {
-    pub fn denial(self) -> Denial
-        ensures { result ≡ quarantine_denial self }
-    {
+impl Fault for QuarantineFault {
+    ghost denial_of = { quarantine_denial };
+
+    ghost layer_of = { λ _. QuarantineLayer };
+
+    fn denial(self) -> Denial {
         match self {
             QuarantineFault::Revoked => Denial::Revoked,
             QuarantineFault::Freed => Denial::Freed,
@@ -20,15 +20,7 @@ impl QuarantineFault {
         }
     }
 
-    pub fn code(self) -> u8
-        ensures { result ≡ number_of (quarantine_denial self) }
-    {
-        self.denial().number()
-    }
-
-    pub fn layer(self) -> Layer
-        ensures { result ≡ Quarantine }
-    {
+    fn layer(self) -> Layer {
         Layer::Quarantine
     }
 }

@@ -2,7 +2,7 @@
 #![tactic(auto)]
 
 use allocator::quota::Quota;
-use denial::Layer;
+use denial::Fault;
 use machine::compartment_machine::CompartmentMachine;
 use machine::machine::Machine;
 use memory::flat::Flat;

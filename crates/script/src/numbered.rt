@@ -1,4 +1,3 @@
-ghost use Rattle.denial.specs.Numbers.{number_of};
 ghost use Rattle.script.specs.Faults.{script_answer, script_denial, script_layer, script_line};
 ghost use Rattle.script.specs.Faults.{unread};
 ghost use Rattle.script.specs.declared.fault.RunError.TheVariants.{Memory as MemoryCase};
@@ -6,36 +5,32 @@ ghost use Rattle.script.specs.declared.fault.ScriptFault.TheVariants.{Call as Ca
 ghost use Rattle.std.specs.Prelude.{◌≡◌};
 
 use crate::fault::{LineFault, RunError, ScriptFault};
-use denial::{Denial, Layer};
+use denial::{Denial, Fault, Layer};
 use reader::place::Place;
 use reader::script::ReadError;
 use std::alloc::AllocError;
 
-impl ScriptFault {
-    pub fn denial(self) -> Denial
-        ensures { result ≡ script_denial self }
-    {
+impl Fault for ScriptFault {
+    ghost denial_of = { script_denial };
+
+    ghost layer_of = { script_layer };
+
+    fn denial(self) -> Denial {
         match self {
             ScriptFault::Text(_) => Denial::Text,
             ScriptFault::Call(at) => at.fault.denial(),
         }
     }
 
-    pub fn code(self) -> u8
-        ensures { result ≡ number_of (script_denial self) }
-    {
-        self.denial().number()
-    }
-
-    pub fn layer(self) -> Layer
-        ensures { result ≡ script_layer self }
-    {
+    fn layer(self) -> Layer {
         match self {
             ScriptFault::Text(_) => Layer::Reader,
             ScriptFault::Call(at) => at.fault.layer(),
         }
     }
+}
 
+impl ScriptFault {
     pub fn line(self) -> usize
         ensures { result ≡ script_line self }
     {
