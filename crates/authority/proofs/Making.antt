@@ -1,5 +1,6 @@
 -- Capabilities, and permissions of a number, by what they hold.
 use Rattle.std.proofs.Common.{◌≡◌, ℕ, ◌+◌, ◌*◌, ◌/◌, ◌%◌, ◌<◌, ◌≤◌, Bool, true, false, ltb, leb, Some, None, Option, sym, refl, ap, ◌∙◌, subst, ap₂, arith, MatchOption}
+use Rattle.std.proofs.lemmas.Bool.Decides.{nat_tests}
 use Rattle.std.proofs.lemmas.Bool.{leb-true, lt-ltb, le-leb, both_ways, cond-true, and_from}
 use Rattle.authority.specs.Spans.{is_within, most_bytes}
 use Rattle.authority.specs.Masks.{all_permissions}
@@ -36,6 +37,23 @@ capability_is a r h = go (is_within a.first.base a.first.top) refl r h
     go false e None h = refl
     go false e (Some c) h = absurd (both_ways (is_within a.first.base a.first.top) e (subst (λ (x : Authority). is_within x.first.base x.first.top ≡ true) h (within_is _ _ c.nonempty c.reach)))
 
+-- permissions are those of their number, and a number above all permissions has none
+pub permissions_back : (p : Permissions) → Some p ≡ permissions_from p.bits
+permissions_back p = permissions_is p.bits (Some p) refl
+
+pub permissions_none : (n : ℕ) → all_permissions < n → permissions_from n ≡ None
+permissions_none n h = sym (permissions_is n None (λ l. omega arith))
+
+-- a capability is the one over its authority, and empty bounds or bounds that reach too far have none
+pub capability_back : (c : Capability) → Some c ≡ capability_over c.authority
+capability_back c = capability_is c.authority (Some c) refl
+
+pub capability_empty : (a : Authority) → a.first.top ≡ 0 → capability_over a ≡ None
+capability_empty a h = sym (capability_is a None (grind (arith, nat_tests)))
+
+pub capability_past : (a : Authority) → most_bytes < a.first.top → capability_over a ≡ None
+capability_past a h = sym (capability_is a None (grind (arith, nat_tests)))
+
 -- the four bytes of a number give it back
 word_back : (n : ℕ) → n < 4294967296 → word_at (word n) 0 ≡ n
 word_back n h =
@@ -62,9 +80,9 @@ pub numbers_back : (c : Capability) → capability_of (base_of c) (top_of c) (pe
 numbers_back c =
     let a = c.authority in
     let b : bounds_between a.first.base a.first.top ≡ a.first = between_back a.first c.nonempty in
-    let p : permissions_from a.second.bits ≡ Some a.second = sym (permissions_is a.second.bits (Some a.second) refl) in
+    let p : permissions_from a.second.bits ≡ Some a.second = sym (permissions_back a.second) in
     ap (capability_with (bounds_between a.first.base a.first.top)) p
-    ∙ (ap (λ x. capability_over (record { first = x; second = a.second })) b ∙ sym (capability_is a (Some c) refl))
+    ∙ (ap (λ x. capability_over (record { first = x; second = a.second })) b ∙ sym (capability_back c))
 
 pub image_reads_back : ImageReadsBack
 image_reads_back c =

@@ -1,8 +1,8 @@
 ghost use Rattle.authority.specs.Spans.{is_span, shared_base, shared_top};
-ghost use Rattle.std.specs.Prelude.{◌≡◌, true, if◌then◌else◌, ◌==◌, nat_lt};
+ghost use Rattle.std.specs.Prelude.{◌≡◌, true, ◌==◌};
 
 // The addresses from a base up to a top; empty bounds are 0 to 0.
-#[derive(Clone, Copy)]
+#[derive(Clone, Copy, Debug, PartialEq, Eq)]
 pub struct Bounds {
     base: u32,
     top: u32,
@@ -10,10 +10,12 @@ pub struct Bounds {
 }
 
 impl Bounds {
+    ghost use Rattle.authority.specs.BoundsMeet.{bounds_between};
+
     // The addresses from `from` up to `to`; empty if `from` is not below `to`.
-    pub(crate) fn new(from: u32, to: u32) -> Bounds
-        ensures base { result.base ≡ (if nat_lt from to then from else 0) }
-        ensures top { result.top ≡ (if nat_lt from to then to else 0) }
+    #[tactic(auto, using(crate::specs::BoundsMeet::same_bounds), unfolding(crate::specs::BoundsMeet::bounds_between))]
+    pub fn between(from: u32, to: u32) -> Bounds
+        ensures { result ≡ bounds_between from to }
     {
         if from < to {
             Bounds {
@@ -44,10 +46,11 @@ impl Bounds {
     }
 
     // The addresses of both.
+    #[tactic(auto, unfolding(crate::specs::BoundsMeet::bounds_between))]
     pub fn shared(self, other: Bounds) -> Bounds
         ensures base { result.base ≡ shared_base self.base self.top other.base other.top }
         ensures top { result.top ≡ shared_top self.base self.top other.base other.top }
     {
-        Bounds::new(self.base.max(other.base), self.top.min(other.top))
+        Bounds::between(self.base.max(other.base), self.top.min(other.top))
     }
 }

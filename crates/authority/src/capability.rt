@@ -1,8 +1,8 @@
-ghost use Rattle.std.specs.Prelude.{◌≡◌, ◌-◌, ◌<◌, ◌≤◌, false, MatchOption};
-ghost use Rattle.authority.specs.Spans.{is_within, most_bytes};
+ghost use Rattle.std.specs.Prelude.{◌≡◌, ◌-◌, ◌<◌, ◌≤◌};
+ghost use Rattle.authority.specs.Spans.{most_bytes};
 
 use crate::bounds::Bounds;
-use crate::meet::Pair;
+use crate::meet::{Pair, derive};
 use crate::permissions::Permissions;
 
 // The bytes of the largest memory, and so the largest top of a capability.
@@ -12,7 +12,7 @@ pub const MAX_TOP: u32 = 16384;
 pub type Authority = Pair<Bounds, Permissions>;
 
 // An authority whose bounds are not empty and reach at most the last address of the largest memory.
-#[derive(Clone, Copy)]
+#[derive(Clone, Copy, Debug, PartialEq, Eq)]
 pub struct Capability {
     authority: Authority,
     ghost nonempty: { authority.first.base < authority.first.top },
@@ -20,6 +20,37 @@ pub struct Capability {
 }
 
 impl Capability {
+    ghost use Rattle.authority.specs.Capabilities.{capability_of, capability_over, meet_authority};
+
+    // The capability over an authority; none if its bounds are empty, or reach past the largest memory.
+    #[tactic(auto, using(crate::proofs::Making::capability_empty, crate::proofs::Making::capability_past))]
+    pub fn over(authority: Authority) -> Option<Capability>
+        ensures { result ≡ capability_over authority }
+    {
+        if authority.first.is_empty() || authority.first.top() > MAX_TOP {
+            return None;
+        }
+        Some(Capability { authority })
+    }
+
+    // The capability of three numbers; none unless base is below top and the third is a permission number.
+    pub fn new(base: u32, top: u32, permissions: u32) -> Option<Capability>
+        ensures { result ≡ capability_of base top permissions }
+    {
+        let second = Permissions::from_number(permissions)?;
+        Capability::over(Pair {
+            first: Bounds::between(base, top),
+            second,
+        })
+    }
+
+    // The capability narrowed to what is wanted; none if its bounds become empty.
+    pub fn derive(self, wanted: Authority) -> Option<Capability>
+        ensures { result ≡ capability_over (meet_authority self.authority wanted) }
+    {
+        Capability::over(derive(self.authority, wanted))
+    }
+
     pub fn authority(self) -> Authority
         ensures { result ≡ self.authority }
     {
@@ -49,18 +80,5 @@ impl Capability {
         ensures { result ≡ self.authority.first.top - self.authority.first.base }
     {
         self.top() - self.base()
-    }
-
-    // A capability over an authority, if its bounds are not empty and reach no further than any memory.
-    pub(crate) fn keep(authority: Authority) -> Option<Capability>
-        ensures { MatchOption result (is_within authority.first.base authority.first.top ≡ false) (λ c. c.authority ≡ authority) }
-    {
-        if authority.first.is_empty() {
-            return None;
-        }
-        if authority.first.top() > MAX_TOP {
-            return None;
-        }
-        Some(Capability { authority })
     }
 }

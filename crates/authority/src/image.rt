@@ -1,31 +1,23 @@
-ghost use Rattle.std.specs.Prelude.{◌≡◌, ◌+◌, ◌<◌, slice_index};
+ghost use Rattle.std.specs.Prelude.{◌≡◌, ◌+◌, slice_index};
 ghost use Rattle.authority.specs.Images.{ImageReadsBack, image_of, read_image, word_at};
 
 use crate::capability::Capability;
 
 // The byte k places after another; 0 past the end.
-fn byte_after(bytes: &[u8], at: usize, k: usize) -> u32
-    ensures value { result ≡ slice_index bytes.now (at + k) }
-    ensures small { result < 256 }
+fn byte_after(bytes: &[u8], at: usize, k: usize) -> u8
+    ensures { result ≡ slice_index bytes.now (at + k) }
 {
-    if at >= bytes.len() {
-        return 0;
+    match at.checked_add(k) {
+        Some(i) => bytes.get(i).copied().unwrap_or(0),
+        None => 0,
     }
-    if k >= bytes.len() - at {
-        return 0;
-    }
-    u32::from(bytes[at + k])
 }
 
 // The number in the four bytes from a place on, low byte first; bytes past the end count as 0.
 pub fn word_at(bytes: &[u8], at: usize) -> u32
     ensures { result ≡ word_at bytes.now at }
 {
-    let b0 = byte_after(bytes, at, 0);
-    let b1 = byte_after(bytes, at, 1);
-    let b2 = byte_after(bytes, at, 2);
-    let b3 = byte_after(bytes, at, 3);
-    b0 + 256 * b1 + 65536 * b2 + 16777216 * b3
+    u32::from_le_bytes([0, 1, 2, 3].map(|k| byte_after(bytes, at, k)))
 }
 
 impl Capability {
@@ -35,7 +27,7 @@ impl Capability {
     {
         let [b0, b1, b2, b3] = self.base().to_le_bytes();
         let [t0, t1, t2, t3] = self.top().to_le_bytes();
-        let p = self.permissions().byte();
+        let p = self.permissions().number() as u8;
         [b0, b1, b2, b3, t0, t1, t2, t3, p, 0, 0, 0, 0, 0, 0, 0]
     }
 

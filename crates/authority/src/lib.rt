@@ -5,6 +5,5 @@ pub mod bounds;
 pub mod capability;
 pub mod image;
 pub mod meet;
-pub mod narrow;
 pub mod permission;
 pub mod permissions;

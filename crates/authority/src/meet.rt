@@ -42,6 +42,7 @@ impl MeetSemilattice for Bounds {
 
     ghost idempotent = { unfold meet_bounds in λ x. same_bounds _ _ (base_self x.base x.top x.span) (top_self x.base x.top x.span) };
 
+    #[tactic(auto, using(crate::specs::BoundsMeet::same_bounds), unfolding(crate::specs::BoundsMeet::meet_bounds))]
     fn meet(self, other: Bounds) -> Bounds {
         self.shared(other)
     }
@@ -56,13 +57,14 @@ impl MeetSemilattice for Permissions {
 
     ghost idempotent = { unfold meet_permissions in λ x. same_permissions _ _ (and_self x.bits) };
 
+    #[tactic(auto, using(crate::specs::PermissionsMeet::same_permissions), unfolding(crate::specs::PermissionsMeet::meet_permissions))]
     fn meet(self, other: Permissions) -> Permissions {
         self.shared(other)
     }
 }
 
 // Two kinds of authority side by side.
-#[derive(Clone, Copy)]
+#[derive(Clone, Copy, Debug, PartialEq, Eq)]
 pub struct Pair<F: MeetSemilattice, S: MeetSemilattice> {
     pub first: F,
     pub second: S,

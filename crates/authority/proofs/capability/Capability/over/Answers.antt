@@ -1,5 +1,5 @@
-use Rattle.authority.proofs.Making.{capability_is}
+use Rattle.authority.proofs.Making.{capability_back}
 use Rattle.authority.proofs.capability.Capability.over.Goals as goal
 
 pub returns : goal.returns
-returns c = capability_is c.args.authority c.keep.result c.keep.ensures
+returns c = capability_back _
