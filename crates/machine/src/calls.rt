@@ -2,10 +2,11 @@ ghost use Rattle.machine.specs.Model.{Fixed, State};
 ghost use Rattle.quarantine.specs.declared.sweep.Sweep.TheVariants.{Idle as SweepIdle};
 ghost use Rattle.std.specs.Prelude.{[], length};
 
-use crate::checks::{granule_at, is_operand, is_register};
+use crate::checks::{byte_at, check_operand, check_permission, granule_at};
 use crate::compartment_machine::CompartmentMachine;
 use crate::fault::MachineFault;
 use crate::machine::Machine;
+use crate::slot::Slot;
 use crate::store::store_image;
 use allocator::allocator::Allocator;
 use authority::bounds::Bounds;
@@ -26,10 +27,9 @@ impl<M: TaggedMemory, B: Allocator> CompartmentMachine for Machine<M, B> {
         register: u32,
         granules: u32,
     ) -> Result<u32, MachineFault> {
-        if !is_register(compartment, register) {
-            return Err(MachineFault::BadNum);
-        }
-        if !is_operand(granules) || granules == 0 {
+        let slot = Slot::of(compartment, register)?;
+        check_operand(granules)?;
+        if granules == 0 {
             return Err(MachineFault::BadNum);
         }
         if self.memory.granules() != self.allocator.granules() {
@@ -37,8 +37,7 @@ impl<M: TaggedMemory, B: Allocator> CompartmentMachine for Machine<M, B> {
         }
         let base = 16 * self.allocator.allocate(granules as usize)? as u32;
         self.registers.put(
-            compartment,
-            register,
+            slot,
             Capability::new(base, base + 16 * granules, ALL_PERMISSIONS),
         );
         Ok(base)
@@ -53,37 +52,27 @@ impl<M: TaggedMemory, B: Allocator> CompartmentMachine for Machine<M, B> {
         length: u32,
         permissions: u32,
     ) -> Result<u32, MachineFault> {
-        if !is_register(compartment, register) || !is_register(compartment, source) {
-            return Err(MachineFault::BadNum);
-        }
-        if !is_operand(offset) || !is_operand(length) {
-            return Err(MachineFault::BadNum);
-        }
-        let Some(second) = Permissions::from_number(permissions) else {
-            return Err(MachineFault::BadNum);
-        };
-        let held = self.registers.held(compartment, source)?;
+        let slot = Slot::of(compartment, register)?;
+        let source = Slot::of(compartment, source)?;
+        check_operand(offset)?;
+        check_operand(length)?;
+        let second = Permissions::from_number(permissions).ok_or(MachineFault::BadNum)?;
+        let held = self.registers.held(source)?;
         let from = held.base() + offset;
         let first = Bounds::between(from, from + length);
-        let Some(derived) = held.derive(Pair { first, second }) else {
-            return Err(MachineFault::Nothing);
-        };
-        self.registers.put(compartment, register, Some(derived));
+        let derived = held
+            .derive(Pair { first, second })
+            .ok_or(MachineFault::Nothing)?;
+        self.registers.put(slot, Some(derived));
         Ok(derived.length())
     }
 
     fn getb(&mut self, compartment: u32, register: u32, offset: u32) -> Result<u32, MachineFault> {
-        if !is_register(compartment, register) || !is_operand(offset) {
-            return Err(MachineFault::BadNum);
-        }
-        let held = self.registers.held(compartment, register)?;
-        if !held.permissions().allows(Permission::Load) {
-            return Err(MachineFault::Perm);
-        }
-        if offset >= held.length() {
-            return Err(MachineFault::Bounds);
-        }
-        let byte = self.memory.read_byte((held.base() + offset) as usize)?;
+        let slot = Slot::of(compartment, register)?;
+        check_operand(offset)?;
+        let held = self.registers.held(slot)?;
+        check_permission(held, Permission::Load)?;
+        let byte = self.memory.read_byte(byte_at(held, offset)?)?;
         Ok(u32::from(byte))
     }
 
@@ -94,21 +83,14 @@ impl<M: TaggedMemory, B: Allocator> CompartmentMachine for Machine<M, B> {
         offset: u32,
         value: u32,
     ) -> Result<u32, MachineFault> {
-        if !is_register(compartment, register) || !is_operand(offset) {
-            return Err(MachineFault::BadNum);
-        }
+        let slot = Slot::of(compartment, register)?;
+        check_operand(offset)?;
         if value > 255 {
             return Err(MachineFault::BadNum);
         }
-        let held = self.registers.held(compartment, register)?;
-        if !held.permissions().allows(Permission::Store) {
-            return Err(MachineFault::Perm);
-        }
-        if offset >= held.length() {
-            return Err(MachineFault::Bounds);
-        }
-        self.memory
-            .store_byte((held.base() + offset) as usize, value as u8)?;
+        let held = self.registers.held(slot)?;
+        check_permission(held, Permission::Store)?;
+        self.memory.store_byte(byte_at(held, offset)?, value as u8)?;
         Ok(0)
     }
 
@@ -119,18 +101,13 @@ impl<M: TaggedMemory, B: Allocator> CompartmentMachine for Machine<M, B> {
         offset: u32,
         source: u32,
     ) -> Result<u32, MachineFault> {
-        if !is_register(compartment, register) || !is_register(compartment, source) {
-            return Err(MachineFault::BadNum);
-        }
-        if !is_operand(offset) {
-            return Err(MachineFault::BadNum);
-        }
-        let held = self.registers.held(compartment, register)?;
-        let stored = self.registers.held(compartment, source)?;
-        let permissions = held.permissions();
-        if !permissions.allows(Permission::Store) || !permissions.allows(Permission::Capabilities) {
-            return Err(MachineFault::Perm);
-        }
+        let slot = Slot::of(compartment, register)?;
+        let source = Slot::of(compartment, source)?;
+        check_operand(offset)?;
+        let held = self.registers.held(slot)?;
+        let stored = self.registers.held(source)?;
+        check_permission(held, Permission::Store)?;
+        check_permission(held, Permission::Capabilities)?;
         let g = granule_at(held, offset)?;
         store_image(&mut self.memory, g, stored)?;
         Ok(0)
@@ -143,26 +120,21 @@ impl<M: TaggedMemory, B: Allocator> CompartmentMachine for Machine<M, B> {
         offset: u32,
         target: u32,
     ) -> Result<u32, MachineFault> {
-        if !is_register(compartment, register) || !is_register(compartment, target) {
-            return Err(MachineFault::BadNum);
-        }
-        if !is_operand(offset) {
-            return Err(MachineFault::BadNum);
-        }
-        let held = self.registers.held(compartment, register)?;
-        let permissions = held.permissions();
-        if !permissions.allows(Permission::Load) || !permissions.allows(Permission::Capabilities) {
-            return Err(MachineFault::Perm);
-        }
+        let slot = Slot::of(compartment, register)?;
+        let target = Slot::of(compartment, target)?;
+        check_operand(offset)?;
+        let held = self.registers.held(slot)?;
+        check_permission(held, Permission::Load)?;
+        check_permission(held, Permission::Capabilities)?;
         let g = granule_at(held, offset)?;
         let granule = self.memory.read_granule(g)?;
         if !granule.tagged {
             return Err(MachineFault::NoCap);
         }
-        let Some(loaded) = Capability::new(granule.base, granule.top, granule.permissions) else {
-            return Err(MachineFault::NoCap);
-        };
-        self.registers.put(compartment, target, Some(loaded));
+        let loaded = Capability::new(granule.base, granule.top, granule.permissions).ok_or(
+            MachineFault::NoCap,
+        )?;
+        self.registers.put(target, Some(loaded));
         Ok(0)
     }
 
@@ -173,25 +145,20 @@ impl<M: TaggedMemory, B: Allocator> CompartmentMachine for Machine<M, B> {
         recipient: u32,
         target: u32,
     ) -> Result<u32, MachineFault> {
-        if !is_register(compartment, register) || !is_register(recipient, target) {
-            return Err(MachineFault::BadNum);
-        }
-        let held = self.registers.held(compartment, register)?;
-        if !held.permissions().allows(Permission::Give) {
-            return Err(MachineFault::Perm);
-        }
-        if self.registers.get(recipient, target).is_some() {
+        let slot = Slot::of(compartment, register)?;
+        let target = Slot::of(recipient, target)?;
+        let held = self.registers.held(slot)?;
+        check_permission(held, Permission::Give)?;
+        if self.registers.get(target).is_some() {
             return Err(MachineFault::FullReg);
         }
-        self.registers.put(recipient, target, Some(held));
+        self.registers.put(target, Some(held));
         Ok(0)
     }
 
     fn drop(&mut self, compartment: u32, register: u32) -> Result<u32, MachineFault> {
-        if !is_register(compartment, register) {
-            return Err(MachineFault::BadNum);
-        }
-        self.registers.put(compartment, register, None);
+        let slot = Slot::of(compartment, register)?;
+        self.registers.put(slot, None);
         Ok(0)
     }
 }

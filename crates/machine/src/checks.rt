@@ -1,30 +1,46 @@
-ghost use Rattle.std.specs.Prelude.{◌≡◌, ◌<◌, ◌≤◌, true};
-ghost use Rattle.machine.specs.Answers.{granule_answer};
-ghost use Rattle.machine.specs.Rules.{is_operand, is_register};
+ghost use Rattle.std.specs.Prelude.{◌≡◌, ◌+◌, ◌≤◌, true, false, MatchResult, if◌then◌else◌, Ok, Err, nat_lt};
+ghost use Rattle.authority.specs.Capabilities.{base_of, permissions_of};
+ghost use Rattle.authority.specs.Masks.{allows};
+ghost use Rattle.machine.specs.Answers.{granule_answer, length_of};
+ghost use Rattle.machine.specs.Rules.{is_operand};
+ghost use Rattle.machine.specs.declared.fault.MachineFault.TheVariants.{BadNum, Bounds, Perm};
 
-use crate::compartment::REGISTERS;
 use crate::fault::MachineFault;
-use crate::registers::COMPARTMENTS;
 use authority::capability::Capability;
+use authority::permission::Permission;
 
 // The largest operand of a call.
 pub const MAX_OPERAND: u32 = 65535;
 
-// Whether a compartment and a register of it have such numbers.
-pub(crate) fn is_register(compartment: u32, register: u32) -> bool
-    ensures value { result ≡ is_register compartment register }
-    ensures compartment { result ≡ true → compartment < 8 }
-    ensures register { result ≡ true → register < 8 }
+// Denied unless a number is an operand.
+pub(crate) fn check_operand(n: u32) -> Result<(), MachineFault>
+    ensures { MatchResult result (λ _. (is_operand n ≡ true) × (n ≤ 65535)) (λ f. (is_operand n ≡ false) × (f ≡ BadNum)) }
 {
-    (compartment as usize) < COMPARTMENTS && (register as usize) < REGISTERS
+    if n > MAX_OPERAND {
+        return Err(MachineFault::BadNum);
+    }
+    Ok(())
 }
 
-// Whether a number is an operand.
-pub(crate) fn is_operand(n: u32) -> bool
-    ensures value { result ≡ is_operand n }
-    ensures small { result ≡ true → n ≤ 65535 }
+// Denied unless a capability has a permission.
+pub(crate) fn check_permission(held: Capability, permission: Permission) -> Result<(), MachineFault>
+    ensures { result ≡ (if allows (permissions_of held) permission then Ok tt else Err Perm) }
 {
-    n <= MAX_OPERAND
+    if !held.permissions().allows(permission) {
+        return Err(MachineFault::Perm);
+    }
+    Ok(())
+}
+
+// The address of the byte at an offset of a capability: it has to lie within.
+pub(crate) fn byte_at(held: Capability, offset: u32) -> Result<usize, MachineFault>
+    requires { offset ≤ 65535 }
+    ensures { result ≡ (if nat_lt offset (length_of held) then Ok (base_of held + offset) else Err Bounds) }
+{
+    if offset >= held.length() {
+        return Err(MachineFault::Bounds);
+    }
+    Ok((held.base() + offset) as usize)
 }
 
 // The granule at an offset of a capability: it has to lie within, and to begin there.

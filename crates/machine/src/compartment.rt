@@ -1,6 +1,7 @@
-ghost use Rattle.std.specs.Prelude.{◌≡◌, ◌<◌, None, slice_index_or, slice_set};
+ghost use Rattle.std.specs.Prelude.{◌≡◌, None, slice_index_or, slice_set};
 ghost use Rattle.machine.specs.Model.{empty_compartment};
 
+use crate::slot::Slot;
 use authority::capability::Capability;
 
 // The registers of a compartment.
@@ -22,17 +23,16 @@ impl Compartment {
         }
     }
 
-    pub(crate) fn get(&self, r: usize) -> Option<Capability>
-        requires { r < 8 }
-        ensures { result ≡ slice_index_or self.now.registers r None }
+    // What the register that a slot names holds.
+    pub(crate) fn get(&self, slot: Slot) -> Option<Capability>
+        ensures { result ≡ slice_index_or self.now.registers slot.register None }
     {
-        self.registers[r]
+        self.registers[slot.register]
     }
 
-    pub(crate) fn put(&mut self, r: usize, held: Option<Capability>)
-        requires { r < 8 }
-        ensures { self.new.registers ≡ slice_set self.old.registers r held }
+    pub(crate) fn put(&mut self, slot: Slot, held: Option<Capability>)
+        ensures { self.new.registers ≡ slice_set self.old.registers slot.register held }
     {
-        self.registers[r] = held;
+        self.registers[slot.register] = held;
     }
 }

@@ -2,7 +2,7 @@ use allocator::fault::AllocatorFault;
 use quarantine::fault::QuarantineFault;
 
 // Why a machine denies a call; the faults of quarantine and allocator are held whole.
-#[derive(Clone, Copy)]
+#[derive(Clone, Copy, Debug, PartialEq, Eq)]
 pub enum MachineFault {
     BadNum,
     Empty,

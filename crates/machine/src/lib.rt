@@ -9,4 +9,5 @@ pub mod fault;
 pub mod machine;
 pub mod numbered;
 pub mod registers;
+mod slot;
 mod store;

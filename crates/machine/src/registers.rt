@@ -1,9 +1,10 @@
-ghost use Rattle.std.specs.Prelude.{◌≡◌, ◌<◌};
+ghost use Rattle.std.specs.Prelude.{◌≡◌};
 ghost use Rattle.machine.specs.Answers.{held_answer};
 ghost use Rattle.machine.specs.Model.{empty_registers, register_in, with_register_in};
 
 use crate::compartment::Compartment;
 use crate::fault::MachineFault;
+use crate::slot::Slot;
 use authority::capability::Capability;
 
 // The number of compartments.
@@ -25,32 +26,23 @@ impl Registers {
     }
 
     // What a register holds.
-    pub(crate) fn get(&self, compartment: u32, register: u32) -> Option<Capability>
-        requires compartment { compartment < 8 }
-        requires register { register < 8 }
-        ensures { result ≡ register_in self.now compartment register }
+    pub(crate) fn get(&self, slot: Slot) -> Option<Capability>
+        ensures { result ≡ register_in self.now slot.compartment slot.register }
     {
-        self.compartments[compartment as usize].get(register as usize)
+        self.compartments[slot.compartment].get(slot)
     }
 
     // The capability of a register; denied if it is empty.
-    pub(crate) fn held(&self, compartment: u32, register: u32) -> Result<Capability, MachineFault>
-        requires compartment { compartment < 8 }
-        requires register { register < 8 }
-        ensures { result ≡ held_answer (register_in self.now compartment register) }
+    pub(crate) fn held(&self, slot: Slot) -> Result<Capability, MachineFault>
+        ensures { result ≡ held_answer (register_in self.now slot.compartment slot.register) }
     {
-        match self.get(compartment, register) {
-            Some(capability) => Ok(capability),
-            None => Err(MachineFault::Empty),
-        }
+        self.get(slot).ok_or(MachineFault::Empty)
     }
 
     // Gives a register what it is to hold.
-    pub(crate) fn put(&mut self, compartment: u32, register: u32, held: Option<Capability>)
-        requires compartment { compartment < 8 }
-        requires register { register < 8 }
-        ensures { self.new ≡ with_register_in self.old compartment register held }
+    pub(crate) fn put(&mut self, slot: Slot, held: Option<Capability>)
+        ensures { self.new ≡ with_register_in self.old slot.compartment slot.register held }
     {
-        self.compartments[compartment as usize].put(register as usize, held);
+        self.compartments[slot.compartment].put(slot, held);
     }
 }

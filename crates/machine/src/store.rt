@@ -7,6 +7,7 @@ use memory::fault::MemoryFault;
 use memory::tagged_memory::TaggedMemory;
 
 // Stores a capability at a granule.
+#[tactic(auto, using(authority::proofs::Making::numbers_back))]
 pub(crate) fn store_image<M: TaggedMemory>(
     memory: &mut M,
     g: usize,

@@ -2,50 +2,33 @@
 #![tactic(auto)]
 
 use allocator::quota::Quota;
-use denial::Fault;
-use machine::compartment_machine::CompartmentMachine;
 use machine::machine::Machine;
 use memory::flat::Flat;
 use next_fit::NextFit;
-use script::fault::{RunError, ScriptFault};
+use script::fault::RunError;
 use script::outcome::LineOutcome;
 use script::run::run_script;
 use std::alloc::{AllocError, Global};
+use std::fmt;
 
-// The line of an accepted call: its line number, 0, `-` and the answer.
-fn accepted_text(heap: Global, line: usize, answer: u32) -> Result<String, AllocError> {
-    format!(in heap; "{line} 0 - {answer}\n")
-}
-
-// The line of a denial: its line number, code, layer, and the word on TEXT, else 0.
-fn denied_text(heap: Global, fault: ScriptFault) -> Result<String, AllocError> {
-    let line = fault.line();
-    let code = fault.code();
-    let layer = fault.layer().letter();
-    let answer = fault.answer();
-    format!(in heap; "{line} {code} {layer} {answer}\n")
-}
-
-fn outcome_text(heap: Global, of: LineOutcome) -> Result<String, AllocError> {
-    match of.outcome {
-        Ok(answer) => accepted_text(heap, of.line, answer),
-        Err(fault) => denied_text(heap, fault),
-    }
-}
-
-// A machine's part: its letter with the granules, then a line for each outcome.
-fn part_text(
-    heap: Global,
+// A machine's part of what is printed: its letter with the granules, then a line for each outcome.
+#[derive(Drop)]
+struct Part<'a> {
     letter: char,
     granules: usize,
-    outcomes: &[LineOutcome],
-) -> Result<String, AllocError> {
-    let mut text = format!(in heap.clone()?; "{letter} {granules}\n")?;
-    for of in outcomes {
-        let line = outcome_text(heap.clone()?, *of)?;
-        text.push_str(&line)?;
+    outcomes: &'a [LineOutcome],
+}
+
+impl fmt::Display for Part<'_> {
+    fn fmt<W: fmt::Write>(&self, f: &mut fmt::Formatter<W>) -> fmt::Result {
+        let letter = self.letter;
+        let granules = self.granules;
+        writeln!(f, "{letter} {granules}")?;
+        for outcome in self.outcomes {
+            writeln!(f, "{outcome}")?;
+        }
+        Ok(())
     }
-    Ok(text)
 }
 
 // Runs a script on a fresh machine of 32 granules, flat memory under a quota of 24 over next fit, and gives what is printed.
@@ -56,8 +39,15 @@ pub fn run_text(heap: Global, script: &[u8]) -> Result<String, AllocError> {
     let allocator = Quota::new(NextFit::new(&mut used, &mut firsts), 24);
     let mut machine = Machine::new(memory, allocator);
     match run_script(heap.clone()?, &mut machine, script) {
-        Ok(outcomes) => part_text(heap, 'B', 32, &outcomes),
-        Err(RunError::Denied(fault)) => denied_text(heap, fault),
+        Ok(outcomes) => {
+            let part = Part {
+                letter: 'B',
+                granules: 32,
+                outcomes: &outcomes,
+            };
+            format!(in heap; "{part}")
+        }
+        Err(RunError::Denied(fault)) => format!(in heap; "{fault}\n"),
         Err(RunError::Memory(error)) => Err(error),
     }
 }
@@ -65,6 +55,7 @@ pub fn run_text(heap: Global, script: &[u8]) -> Result<String, AllocError> {
 #[cfg(test)]
 mod tests {
     use super::*;
+    use denial::Fault;
     use machine::compartment_machine::CompartmentMachine;
     use std::test::Fail;
 

@@ -9,6 +9,7 @@ use denial::{Denial, Fault, Layer};
 use reader::place::Place;
 use reader::script::ReadError;
 use std::alloc::AllocError;
+use std::fmt;
 
 impl Fault for ScriptFault {
     ghost denial_of = { script_denial };
@@ -48,6 +49,17 @@ impl ScriptFault {
             ScriptFault::Text(place) => place.word,
             ScriptFault::Call(_) => 0,
         }
+    }
+}
+
+// The line's number, the denial's number, the layer's letter, and the word on TEXT, else 0.
+impl fmt::Display for ScriptFault {
+    fn fmt<W: fmt::Write>(&self, f: &mut fmt::Formatter<W>) -> fmt::Result {
+        let line = self.line();
+        let code = self.code();
+        let letter = self.layer().letter();
+        let answer = self.answer();
+        write!(f, "{line} {code} {letter} {answer}")
     }
 }
 

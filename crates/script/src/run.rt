@@ -1,22 +1,11 @@
-ghost use Rattle.script.specs.Runs.{answer_at, line_outcome, outcomes_of, RunsScript, reading_state, state_of};
+ghost use Rattle.script.specs.Runs.{line_outcome, outcomes_of, RunsScript, reading_state, state_of};
 ghost use Rattle.std.specs.Prelude.{◌≡◌, true, false, is_ok, IfOk};
 
 use crate::fault::{LineFault, RunError, ScriptFault};
 use crate::outcome::LineOutcome;
 use machine::compartment_machine::CompartmentMachine;
-use machine::fault::MachineFault;
 use reader::script::{Entry, read_script};
 use std::alloc::{AllocError, Global};
-
-// A machine's answer at a line: its fault gets the line.
-fn at_line(line: usize, answer: Result<u32, MachineFault>) -> Result<u32, LineFault>
-    ensures { result ≡ answer_at line answer }
-{
-    match answer {
-        Ok(value) => Ok(value),
-        Err(fault) => Err(LineFault { line, fault }),
-    }
-}
 
 // Performs the call of a line, if it reads as one.
 fn perform_line<C: CompartmentMachine>(machine: &mut C, entry: Entry) -> Result<u32, ScriptFault>
@@ -25,8 +14,11 @@ fn perform_line<C: CompartmentMachine>(machine: &mut C, entry: Entry) -> Result<
     ensures fixed { C.CompartmentMachine.fixed machine.new ≡ C.CompartmentMachine.fixed machine.old }
 {
     let call = entry.reading?;
-    let value = at_line(entry.line, machine.perform(call))?;
-    Ok(value)
+    let line = entry.line;
+    let answer = machine
+        .perform(call)
+        .map_err(|fault| LineFault { line, fault })?;
+    Ok(answer)
 }
 
 // What a line comes to on a machine.
