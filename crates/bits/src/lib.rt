@@ -16,6 +16,7 @@ fn has_room(bytes: usize, end: usize) -> bool
 }
 
 // The bit at place g; false past the end.
+#[tactic(auto, using(crate::specs::Bits::length_bits, crate::proofs::Masks::get_d_bits, std::proofs::lemmas::List::get_or_past))]
 pub fn get(bits: &[u8], g: usize) -> bool
     ensures { result ≡ slice_index_or (bits_of bits.now) g false }
 {
@@ -24,6 +25,7 @@ pub fn get(bits: &[u8], g: usize) -> bool
 }
 
 // Sets the bit at place g to `on`; past the end nothing changes.
+#[tactic(auto, using(crate::specs::Bits::length_bits, crate::proofs::Masks::bits_put, std::proofs::lemmas::List::set_past))]
 pub fn put(bits: &mut [u8], g: usize, on: bool)
     ensures { bits_of bits.new ≡ slice_set (bits_of bits.old) g on }
 {
