@@ -1,4 +1,4 @@
--- The bits of a buffer after one byte is written.
+-- The bits of a buffer after one byte is written, and lists filled from a place on.
 use Rattle.std.proofs.Common.{◌≡◌, ℕ, ◌+◌, ◌-◌, ◌*◌, ◌/◌, ◌%◌, ◌^◌, ◌<◌, ◌≤◌, Bool, true, false, cond, eqb, List, length, get_or, set, replicate, sym, refl, ap, ◌∙◌, ⊎_elim, arith, w8}
 use lib.Bits.{bit_and, bit_or}
 use lib.Seq.{paste}
@@ -7,13 +7,15 @@ use Rattle.std.proofs.lemmas.List.Edits.{fill_from_more}
 use Rattle.std.proofs.lemmas.List.{length-set, get_or-set_same, get_or-set_other, ext_get_or}
 use Rattle.std.proofs.lemmas.Bool.{cases_eq, eq-eqb, ne_eqb}
 use Rattle.std.proofs.lemmas.Nat.Bits.{bit_at_set_same, bit_at_set_other, bit_at_clear_same, bit_at_clear_other}
+use Rattle.std.proofs.lemmas.Bool.Decides.{nat_tests}
+use Rattle.std.proofs.lemmas.Grind.{common_steps}
 use Rattle.bits.specs.Bits.{bit, bit_at, bits_of, BitPut, length_bits}
 
 pub get_d_bits : (bs : List ℕ) (g : ℕ) → g < 8 * length bs → get_or (bits_of bs) g false ≡ bit_at bs g
 unfolding bits_of
 get_d_bits bs g h = get_or-map-range_with_len (bit_at bs) 0 (8 * length bs) g g false h (omega arith)
 
--- the same at the place of a tag
+-- the bit at a place after a write of the byte where another lies
 pub bit_at_put : (bs : List ℕ) (g w i : ℕ) (v : Bool) → BitPut (get_or bs (g / 8) 0) w (g % 8) v → g < 8 * length bs → bit_at (set bs (g / 8) w) i ≡ cond (eqb i g) v (bit_at bs i)
 bit_at_put bs g w i v p hg =
     let lt : g / 8 < length bs = omega arith in
@@ -27,11 +29,7 @@ bit_at_put bs g w i v p hg =
     (cases_eq i g)
 
 get_or_set_cond : (ts : List Bool) (g i : ℕ) (v d : Bool) → g < length ts → get_or (set ts g v) i d ≡ cond (eqb i g) v (get_or ts i d)
-get_or_set_cond ts g i v d h =
-    ⊎_elim
-    (λ (e : i ≡ g). rw (e, eq-eqb g g refl, get_or-set_same ts g v d h))
-    (λ (ne : i ≡ g → ⊥). rw (ne_eqb i g ne) (get_or-set_other ts g i v d ne))
-    (cases_eq i g)
+get_or_set_cond ts g i v d h = grind (arith, nat_tests, common_steps)
 
 bits_put_at : (bs : List ℕ) (g w : ℕ) (v : Bool) → g < 8 * length bs → BitPut (get_or bs (g / 8) 0) w (g % 8) v → bits_of (set bs (g / 8) w) ≡ set (bits_of bs) g v
 bits_put_at bs g w v h p =
