@@ -25,6 +25,7 @@ pub fn get(bits: &[u8], g: usize) -> bool
 }
 
 // Sets the bit at place g to `on`; past the end nothing changes.
+// By its index, since `get_mut` promises nothing of the slice after the write.
 #[tactic(auto, using(crate::specs::Bits::length_bits, crate::proofs::Masks::bits_put, std::proofs::lemmas::List::set_past))]
 pub fn put(bits: &mut [u8], g: usize, on: bool)
     ensures { bits_of bits.new ≡ slice_set (bits_of bits.old) g on }

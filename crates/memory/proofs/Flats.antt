@@ -1,11 +1,12 @@
 -- The model of a flat memory over buffers of fitting sizes, and the bits of zeroed tag bytes.
-use Rattle.std.proofs.Common.{◌≡◌, ℕ, ◌*◌, ◌/◌, ◌%◌, ◌^◌, ◌<◌, true, false, eqb, List, [], length, replicate, sym, ap, ◌∙◌, arith}
+use Rattle.std.proofs.Common.{◌≡◌, ℕ, ◌*◌, ◌/◌, ◌%◌, ◌^◌, ◌<◌, Bool, true, false, cond, eqb, List, [], length, Ok, Err, refl, replicate, sym, ap, ◌∙◌, arith}
 use native.Mathlib.Nat.{zero-div}
 use Rattle.std.proofs.lemmas.List.{ext_get_or, get_or-replicate, length-replicate}
 use Rattle.std.proofs.lemmas.Bool.{cond-true}
 use Rattle.bits.specs.Bits.{bit, bits_of, length_bits}
 use Rattle.bits.proofs.Masks.{get_d_bits}
-use Rattle.memory.specs.Flats.{GranulesOf, fits_for, flat_bytes, flat_tags, sizes_fit}
+use Rattle.memory.specs.Flats.{GranulesOf, fits_for, flat_bytes, flat_tags, sizes_checked, sizes_fit}
+use Rattle.memory.specs.declared.fault.MemoryFault.TheVariants.{Sizes}
 
 tags_are : (bs ts : List ℕ) → sizes_fit (length bs) (length ts) ≡ true → flat_tags bs ts ≡ bits_of ts
 tags_are bs ts e = cond-true (sizes_fit (length bs) (length ts)) (bits_of ts) [] e
@@ -28,6 +29,17 @@ granules_fit bs ts e =
       data_size = λ _. whole;
       tags_size = λ _. bits;
     }
+
+-- sizes that were checked fit
+checked : (t : Bool) (m n : ℕ) → Ok n ≡ cond t (Ok m) (Err Sizes) → (t ≡ true) × (n ≡ m)
+checked true m n e = (refl, cc)
+checked false m n e = absurd cc
+
+-- the number of granules that a check of the sizes gave, over buffers of the same sizes
+pub granules_checked : (bs ts xs ys : List ℕ) (n : ℕ) → Ok n ≡ sizes_checked (length xs) (length ys) → length bs ≡ length xs → length ts ≡ length ys → GranulesOf bs ts n
+granules_checked bs ts xs ys n e hb ht =
+    let f = checked (sizes_fit (length xs) (length ys)) (length xs / 16) n e in
+    rw (f.1, ← hb) (granules_fit bs ts (rw (hb, ht) f.0))
 
 -- zero bytes have no bit set
 zero_bit : (k : ℕ) → bit 0 k ≡ false
