@@ -235,7 +235,8 @@ mod tests {
         let memory = Flat::new(&mut bytes, &mut tags);
         assert_eq!(rt; memory.granules(), 0);
         assert!(rt; memory.bytes.len() == 256);
-        assert_eq!(rt; memory.bytes[255], 7);
+        let last = memory.bytes[255];
+        assert_eq!(rt; last, 7);
     }
 
     #[test]
