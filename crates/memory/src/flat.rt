@@ -75,7 +75,7 @@ impl<'a> Flat<'a> {
     }
 
     // A fresh memory over two buffers. Where the sizes do not fit it has no granules, and the buffers stay as they are.
-    #[tactic(auto, using(crate::proofs::Flats::granules_fit, crate::proofs::Flats::bits_zero))]
+    #[tactic(auto, using(crate::proofs::Flats::bits_zero))]
     pub fn new(bytes: &'a mut [u8], tags: &'a mut [u8]) -> Flat<'a>
         ensures bytes { result.bytes.now ≡ (if sizes_fit (length bytes.old) (length tags.old) then replicate (length bytes.old) 0 else bytes.old) }
         ensures tags { result.tags.now ≡ (if sizes_fit (length bytes.old) (length tags.old) then replicate (length tags.old) 0 else tags.old) }
