@@ -13,7 +13,8 @@ use authority::capability::Capability;
 use authority::image::word_at;
 
 // Tagged memory over two lent buffers: 16 bytes of data for each granule, and its tag as one bit.
-// Where the sizes of the buffers do not fit there are no granules.
+// The number of granules is 0 where the sizes of the buffers do not fit.
+// Kept as it is: bytes and tags apart, since a caller lends exactly these two buffers, of these layouts.
 #[derive(Drop)]
 pub struct Flat<'a> {
     bytes: &'a mut [u8],
@@ -22,7 +23,7 @@ pub struct Flat<'a> {
     ghost counted: { GranulesOf bytes.now tags.now granules },
 }
 
-// Whether buffers of these sizes fit some number of granules.
+// Whether buffers of these sizes fit some number of granules: a multiple of 16, from 16 to 1,024.
 fn fits(bytes: usize, tags: usize) -> bool
     ensures { result ≡ sizes_fit bytes tags }
 {
@@ -51,7 +52,7 @@ fn put_image(bytes: &mut [u8], g: usize, capability: Capability)
     ensures { bytes.new ≡ paste bytes.old (16 * g) (image_of capability) 16 }
 {
     let image = capability.image();
-    bytes[GRANULE_BYTES * g..GRANULE_BYTES * g + GRANULE_BYTES].copy_from_slice(&image);
+    bytes[GRANULE_BYTES * g..GRANULE_BYTES * (g + 1)].copy_from_slice(&image);
 }
 
 // The capability of three numbers, if it ends within `size` bytes.
