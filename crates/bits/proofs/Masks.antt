@@ -1,17 +1,21 @@
--- The bits of a buffer after one byte is written.
-use Rattle.std.proofs.Common.{◌≡◌, ℕ, zero, suc, ◌-◌, ◌*◌, ◌/◌, ◌%◌, ◌^◌, ◌<◌, Bool, true, false, cond, ◌&&◌, eqb, List, length, get_or, set, sym, refl, ap, ◌∙◌, ⊎_elim, arith}
+-- The bits of a buffer after one byte is written, and lists filled from a place on.
+use Rattle.std.proofs.Common.{◌≡◌, ℕ, ◌+◌, ◌-◌, ◌*◌, ◌/◌, ◌%◌, ◌^◌, ◌<◌, ◌≤◌, Bool, true, false, cond, eqb, List, length, get_or, set, replicate, sym, refl, ap, ◌∙◌, ⊎_elim, arith, w8}
 use lib.Bits.{bit_and, bit_or}
+use lib.Seq.{paste}
 use Rattle.std.proofs.lemmas.List.FromFn.{get_or-map-range_with_len}
+use Rattle.std.proofs.lemmas.List.Edits.{fill_from_more}
 use Rattle.std.proofs.lemmas.List.{length-set, get_or-set_same, get_or-set_other, ext_get_or}
-use Rattle.std.proofs.lemmas.Bool.{cases_eq, eq-eqb, ne_eqb, and_parts, eqb-true}
-use Rattle.std.proofs.lemmas.Nat.{and_shr, or_shr, and_mod, or_mod}
+use Rattle.std.proofs.lemmas.Bool.{cases_eq, eq-eqb, ne_eqb}
+use Rattle.std.proofs.lemmas.Nat.Bits.{bit_at_set_same, bit_at_set_other, bit_at_clear_same, bit_at_clear_other}
+use Rattle.std.proofs.lemmas.Bool.Decides.{nat_tests}
+use Rattle.std.proofs.lemmas.Grind.{common_steps}
 use Rattle.bits.specs.Bits.{bit, bit_at, bits_of, BitPut, length_bits}
 
 pub get_d_bits : (bs : List ℕ) (g : ℕ) → g < 8 * length bs → get_or (bits_of bs) g false ≡ bit_at bs g
 unfolding bits_of
 get_d_bits bs g h = get_or-map-range_with_len (bit_at bs) 0 (8 * length bs) g g false h (omega arith)
 
--- the same at the place of a tag
+-- the bit at a place after a write of the byte where another lies
 pub bit_at_put : (bs : List ℕ) (g w i : ℕ) (v : Bool) → BitPut (get_or bs (g / 8) 0) w (g % 8) v → g < 8 * length bs → bit_at (set bs (g / 8) w) i ≡ cond (eqb i g) v (bit_at bs i)
 bit_at_put bs g w i v p hg =
     let lt : g / 8 < length bs = omega arith in
@@ -25,14 +29,10 @@ bit_at_put bs g w i v p hg =
     (cases_eq i g)
 
 get_or_set_cond : (ts : List Bool) (g i : ℕ) (v d : Bool) → g < length ts → get_or (set ts g v) i d ≡ cond (eqb i g) v (get_or ts i d)
-get_or_set_cond ts g i v d h =
-    ⊎_elim
-    (λ (e : i ≡ g). rw (e, eq-eqb g g refl, get_or-set_same ts g v d h))
-    (λ (ne : i ≡ g → ⊥). rw (ne_eqb i g ne) (get_or-set_other ts g i v d ne))
-    (cases_eq i g)
+get_or_set_cond ts g i v d h = grind (arith, nat_tests, common_steps)
 
-pub bits_put : (bs : List ℕ) (g w : ℕ) (v : Bool) → g < 8 * length bs → BitPut (get_or bs (g / 8) 0) w (g % 8) v → bits_of (set bs (g / 8) w) ≡ set (bits_of bs) g v
-bits_put bs g w v h p =
+bits_put_at : (bs : List ℕ) (g w : ℕ) (v : Bool) → g < 8 * length bs → BitPut (get_or bs (g / 8) 0) w (g % 8) v → bits_of (set bs (g / 8) w) ≡ set (bits_of bs) g v
+bits_put_at bs g w v h p =
     let n = length-set bs (g / 8) w in
     let m = length_bits bs in
     ext_get_or false (bits_of (set bs (g / 8) w)) (set (bits_of bs) g v)
@@ -41,54 +41,30 @@ bits_put bs g w v h p =
     let b : i < 8 * length bs = omega (arith, length_bits (set bs (g / 8) w)) in
     get_d_bits (set bs (g / 8) w) i (omega arith) ∙ (bit_at_put bs g w i v p h ∙ sym (get_or_set_cond (bits_of bs) g i v false (omega arith) ∙ ap (λ t. cond (eqb i g) v t) (get_d_bits bs i b))))
 
--- the bits of the masks, 64 cases computed
-bits_shr : (a b j : ℕ) → bit_or a b / 2 ^ j % 2 ≡ bit_or (a / 2 ^ j % 2) (b / 2 ^ j % 2)
-bits_shr a b j = rw or_shr (or_mod (a / 2 ^ j) (b / 2 ^ j) 1)
+-- the bits after a write of the byte where place g lies
+pub bits_put : (bs : List ℕ) (g i k w : ℕ) (v : Bool) → i ≡ g / 8 → k ≡ g % 8 → i < length bs → BitPut (get_or bs i 0) w k v → bits_of (set bs i w) ≡ set (bits_of bs) g v
+bits_put bs g i k w v ei ek h p = rw ei (bits_put_at bs g w v (omega arith) (rw (ei, ek) at p))
 
-bits_and : (a b j : ℕ) → bit_and a b / 2 ^ j % 2 ≡ bit_and (a / 2 ^ j % 2) (b / 2 ^ j % 2)
-bits_and a b j = rw and_shr (and_mod (a / 2 ^ j) (b / 2 ^ j) 1)
+-- one more place of a list filled from a place on
+pub fill_next : {X : Type 0} (xs : List X) (from g : ℕ) (v : X) → from ≤ g → g < length xs → set (paste xs from (replicate (g - from) v) (g - from)) g v ≡ paste xs from (replicate (g + 1 - from) v) (g + 1 - from)
+fill_next xs from g v low high =
+    let at : g ≡ from + (g - from) = omega arith in
+    let more : g - from + 1 ≡ g + 1 - from = omega arith in
+    ap (λ k. set (paste xs from (replicate (g - from) v) (g - from)) k v) at
+    ∙ (fill_from_more xs from (g - from) v (omega arith)
+    ∙ ap (λ k. paste xs from (replicate k v) k) more)
 
-abbrev upto : (ℕ → Bool) → ℕ → Bool
-upto p zero = true
-upto p (suc n) = p n && upto p n
-
-upto_at : (p : ℕ → Bool) (n k : ℕ) → upto p n ≡ true → k < n → p k ≡ true
-upto_at p zero k e h = absurd (omega arith)
-upto_at p (suc n) k e h =
-    let both = and_parts (p n) (upto p n) e in
-    ⊎_elim (λ (q : k ≡ n). rw q both.0) (λ (q : k ≡ n → ⊥). upto_at p n k both.1 (omega arith)) (cases_eq k n)
-
-abbrev one_at : ℕ → ℕ → Bool
-one_at k j = eqb ((1 * 2 ^ k) % 256 / 2 ^ j % 2) (cond (eqb j k) 1 0)
-
-abbrev gap_at : ℕ → ℕ → Bool
-gap_at k j = eqb ((255 - (1 * 2 ^ k) % 256) / 2 ^ j % 2) (cond (eqb j k) 0 1)
-
-one_bit : (k j : ℕ) → k < 8 → j < 8 → (1 * 2 ^ k) % 256 / 2 ^ j % 2 ≡ cond (eqb j k) 1 0
-one_bit k j hk hj = eqb-true _ _ (upto_at (one_at k) 8 j (upto_at (λ i. upto (one_at i) 8) 8 k refl hk) hj)
-
-gap_bit : (k j : ℕ) → k < 8 → j < 8 → (255 - (1 * 2 ^ k) % 256) / 2 ^ j % 2 ≡ cond (eqb j k) 0 1
-gap_bit k j hk hj = eqb-true _ _ (upto_at (gap_at k) 8 j (upto_at (λ i. upto (gap_at i) 8) 8 k refl hk) hj)
-
-or_01 : (x : ℕ) (t : Bool) → x < 2 → eqb (bit_or x (cond t 1 0)) 1 ≡ cond t true (eqb x 1)
-or_01 zero true h = refl
-or_01 zero false h = refl
-or_01 (suc zero) true h = refl
-or_01 (suc zero) false h = refl
-or_01 (suc (suc x)) t h = absurd (omega arith)
-
-and_01 : (x : ℕ) (t : Bool) → x < 2 → eqb (bit_and x (cond t 0 1)) 1 ≡ cond t false (eqb x 1)
-and_01 zero true h = refl
-and_01 zero false h = refl
-and_01 (suc zero) true h = refl
-and_01 (suc zero) false h = refl
-and_01 (suc (suc x)) t h = absurd (omega arith)
-
+-- a byte with bit k set, and with bit k cleared
 pub put_on : (b k : ℕ) → k < 8 → BitPut b (bit_or b ((1 * 2 ^ k) % 256)) k true
-put_on b k hk j hj = rw (bits_shr b ((1 * 2 ^ k) % 256) j, one_bit k j hk hj) (or_01 (b / 2 ^ j % 2) (eqb j k) (omega arith))
+put_on b k hk j hj =
+    ⊎_elim
+    (λ (e : j ≡ k). rw (e, eq-eqb k k refl) (ap (λ x. eqb x 1) (bit_at_set_same w8 b k hk)))
+    (λ (ne : j ≡ k → ⊥). rw (ne_eqb j k ne) (ap (λ x. eqb x 1) (bit_at_set_other w8 b k hk j ne)))
+    (cases_eq j k)
 
 pub put_off : (b k : ℕ) → k < 8 → BitPut b (bit_and b (255 - (1 * 2 ^ k) % 256)) k false
-put_off b k hk j hj = rw (bits_and b (255 - (1 * 2 ^ k) % 256) j, gap_bit k j hk hj) (and_01 (b / 2 ^ j % 2) (eqb j k) (omega arith))
-
-pub put_as : (b w x k : ℕ) (v t : Bool) → w ≡ x → v ≡ t → BitPut b x k t → BitPut b w k v
-put_as b w x k v t e f p = rw (e, f) p
+put_off b k hk j hj =
+    ⊎_elim
+    (λ (e : j ≡ k). rw (e, eq-eqb k k refl) (ap (λ x. eqb x 1) (bit_at_clear_same w8 b k hk)))
+    (λ (ne : j ≡ k → ⊥). rw (ne_eqb j k ne) (ap (λ x. eqb x 1) (bit_at_clear_other w8 b k hk j hj ne)))
+    (cases_eq j k)

@@ -1,75 +1,50 @@
 // Bit buffers over lent bytes: bit g % 8 of byte g / 8 stands for place g.
 #![tactic(auto)]
 
-ghost use Rattle.std.specs.Prelude.{◌≡◌, ℕ, ◌+◌, ◌*◌, ◌<◌, ◌≤◌, true, false, length, set, nat_le, slice_index_or, slice_set};
-ghost use Rattle.bits.specs.Bits.{bit, bits_of, BitPut, filled};
+ghost use Rattle.std.specs.Prelude.{◌≡◌, ◌*◌, false, nat_le, slice_index_or, slice_set};
+ghost use Rattle.bits.specs.Bits.{bits_of, filled};
 
-// Bit k of a byte.
-fn test_bit(byte: u8, k: usize) -> bool
-    requires { k < 8 }
-    ensures { result ≡ bit byte k }
-{
-    (byte >> k) % 2 == 1
-}
+use spot::Spot;
 
-fn set_bit(byte: u8, k: usize) -> u8
-    requires { k < 8 }
-    ensures { BitPut byte result k true }
-{
-    byte | (1u8 << k)
-}
-
-fn clear_bit(byte: u8, k: usize) -> u8
-    requires { k < 8 }
-    ensures { BitPut byte result k false }
-{
-    byte & !(1u8 << k)
-}
-
-// A byte with bit k set to `on`.
-fn with_bit(byte: u8, k: usize, on: bool) -> u8
-    requires { k < 8 }
-    ensures { BitPut byte result k on }
-{
-    if on {
-        set_bit(byte, k)
-    } else {
-        clear_bit(byte, k)
-    }
-}
+mod spot;
 
 // Whether the places below `end` lie in `bytes` bytes.
 fn has_room(bytes: usize, end: usize) -> bool
     ensures { result ≡ nat_le end (8 * bytes) }
 {
-    end / 8 < bytes || (end / 8 == bytes && end % 8 == 0)
+    end.div_ceil(8) <= bytes
 }
 
 // The bit at place g; false past the end.
+#[tactic(auto, using(crate::specs::Bits::length_bits, crate::proofs::Masks::get_d_bits, std::proofs::lemmas::List::get_or_past))]
 pub fn get(bits: &[u8], g: usize) -> bool
     ensures { result ≡ slice_index_or (bits_of bits.now) g false }
 {
-    g / 8 < bits.len() && test_bit(bits[g / 8], g % 8)
+    let spot = Spot::of(g);
+    bits.get(spot.byte).is_some_and(|byte| spot.is_set(*byte))
 }
 
 // Sets the bit at place g to `on`; past the end nothing changes.
+// By its index, since `get_mut` promises nothing of the slice after the write.
+#[tactic(auto, using(crate::specs::Bits::length_bits, crate::proofs::Masks::bits_put, std::proofs::lemmas::List::set_past))]
 pub fn put(bits: &mut [u8], g: usize, on: bool)
     ensures { bits_of bits.new ≡ slice_set (bits_of bits.old) g on }
 {
-    if g / 8 < bits.len() {
-        let old = bits[g / 8];
-        bits[g / 8] = with_bit(old, g % 8, on);
+    let spot = Spot::of(g);
+    if spot.byte < bits.len() {
+        bits[spot.byte] = spot.with(bits[spot.byte], on);
     }
 }
 
 // Sets the bits from place `from` up to `end` to `on`; nothing changes where `end` lies past the last.
+// Kept as it is: a `for` over the places, since bits are no elements of a slice.
+#[tactic(auto, using(crate::specs::Bits::length_bits, crate::proofs::Masks::fill_next))]
 pub fn fill(bits: &mut [u8], from: usize, end: usize, on: bool)
     ensures { bits_of bits.new ≡ filled (bits_of bits.old) from end on }
 {
-    if !has_room(bits.len(), end) {
-        return;
-    }
-    for g in from..end {
-        put(bits, g, on);
+    if has_room(bits.len(), end) {
+        for g in from..end {
+            put(bits, g, on);
+        }
     }
 }

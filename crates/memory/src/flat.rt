@@ -1,47 +1,41 @@
-ghost use Rattle.std.specs.Prelude.{◌≡◌, ◌+◌, ◌*◌, ◌≤◌, false, length, replicate, IfSome, if◌then◌else◌, Some};
+ghost use Rattle.std.specs.Prelude.{◌≡◌, ◌+◌, ◌*◌, ◌<◌, ◌≤◌, false, length, replicate, IfSome, if◌then◌else◌, Some};
 ghost use Rattle.authority.specs.Capabilities.{capability_of};
 ghost use Rattle.authority.specs.Images.{image_of};
 ghost use Rattle.bits.specs.Bits.{bits_of};
 ghost use Rattle.memory.specs.Flats.{GranulesOf, always_may, always_sure, flat_bounded, flat_bytes, flat_granules, flat_sized, flat_tags, sizes_checked, sizes_fit};
-ghost use Rattle.memory.specs.Memories.{granule_at, most_granules, reaching};
+ghost use Rattle.memory.specs.Memories.{change_at, granule_at, reaching};
 ghost use Rattle.std.proofs.Math.Seq.{paste};
 
 use crate::fault::MemoryFault;
-use crate::granule::Granule;
+use crate::granule::{GRANULE_BYTES, Granule, MOST_GRANULES};
 use crate::tagged_memory::TaggedMemory;
 use authority::capability::Capability;
 use authority::image::word_at;
 
 // Tagged memory over two lent buffers: 16 bytes of data for each granule, and its tag as one bit.
+// The number of granules is 0 where the sizes of the buffers do not fit.
+// Kept as it is: bytes and tags apart, since a caller lends exactly these two buffers, of these layouts.
 #[derive(Drop)]
 pub struct Flat<'a> {
     bytes: &'a mut [u8],
     tags: &'a mut [u8],
+    granules: usize,
+    ghost counted: { GranulesOf bytes.now tags.now granules },
 }
 
-// Whether buffers of these sizes fit some number of granules.
+// Whether buffers of these sizes fit some number of granules: a multiple of 16, from 16 to 1,024.
 fn fits(bytes: usize, tags: usize) -> bool
     ensures { result ≡ sizes_fit bytes tags }
 {
-    let g = bytes / 16;
-    bytes % 16 == 0 && tags == g / 8 && g % 16 == 0 && g >= 16 && g <= 1024
+    let g = bytes / GRANULE_BYTES;
+    bytes % GRANULE_BYTES == 0 && tags == g / 8 && g % 16 == 0 && g >= 16 && g <= MOST_GRANULES
 }
 
 // Writes 0 into each byte.
 fn zero(bytes: &mut [u8])
     ensures { bytes.new ≡ replicate (length bytes.old) 0 }
 {
-    for byte in bytes.iter_mut() {
-        *byte = 0;
-    }
-}
-
-// Writes 0 into each tag byte: no tag is set.
-fn zero_tags(tags: &mut [u8])
-    ensures bytes { tags.new ≡ replicate (length tags.old) 0 }
-    ensures bits { bits_of tags.new ≡ replicate (8 * length tags.old) false }
-{
-    zero(tags);
+    bytes.fill(0);
 }
 
 // Zeroes the bytes of n granules from g on.
@@ -49,16 +43,7 @@ fn zero_granules(bytes: &mut [u8], g: usize, n: usize)
     requires { 16 * (g + n) ≤ length bytes.old }
     ensures { bytes.new ≡ paste bytes.old (16 * g) (replicate (16 * n) 0) (16 * n) }
 {
-    zero(&mut bytes[16 * g..16 * (g + n)]);
-}
-
-// Clears the tags of n granules from g on.
-fn clear_tags(tags: &mut [u8], g: usize, n: usize)
-    requires within { g + n ≤ 8 * length tags.old }
-    requires few { g + n ≤ most_granules }
-    ensures { bits_of tags.new ≡ paste (bits_of tags.old) g (replicate n false) n }
-{
-    bits::fill(tags, g, g + n, false);
+    zero(&mut bytes[GRANULE_BYTES * g..GRANULE_BYTES * (g + n)]);
 }
 
 // Stores the image of a capability at granule g.
@@ -67,7 +52,7 @@ fn put_image(bytes: &mut [u8], g: usize, capability: Capability)
     ensures { bytes.new ≡ paste bytes.old (16 * g) (image_of capability) 16 }
 {
     let image = capability.image();
-    bytes[16 * g..16 * g + 16].copy_from_slice(&image);
+    bytes[GRANULE_BYTES * g..GRANULE_BYTES * (g + 1)].copy_from_slice(&image);
 }
 
 // The capability of three numbers, if it ends within `size` bytes.
@@ -75,16 +60,7 @@ fn capability_within(size: usize, base: u32, top: u32, permissions: u32) -> Opti
     ensures answer { result ≡ reaching size (capability_of base top permissions) }
     ensures made { IfSome result (λ c. capability_of base top permissions ≡ Some c) }
 {
-    match Capability::new(base, top, permissions) {
-        None => None,
-        Some(capability) => {
-            if capability.top() as usize <= size {
-                Some(capability)
-            } else {
-                None
-            }
-        }
-    }
+    Capability::new(base, top, permissions).filter(|c| c.top() as usize <= size)
 }
 
 impl<'a> Flat<'a> {
@@ -93,13 +69,14 @@ impl<'a> Flat<'a> {
         ensures { result ≡ sizes_checked (length bytes.now) (length tags.now) }
     {
         if fits(bytes.len(), tags.len()) {
-            Ok(bytes.len() / 16)
+            Ok(bytes.len() / GRANULE_BYTES)
         } else {
             Err(MemoryFault::Sizes)
         }
     }
 
     // A fresh memory over two buffers. Where the sizes do not fit it has no granules, and the buffers stay as they are.
+    #[tactic(auto, using(crate::proofs::Flats::bits_zero))]
     pub fn new(bytes: &'a mut [u8], tags: &'a mut [u8]) -> Flat<'a>
         ensures bytes { result.bytes.now ≡ (if sizes_fit (length bytes.old) (length tags.old) then replicate (length bytes.old) 0 else bytes.old) }
         ensures tags { result.tags.now ≡ (if sizes_fit (length bytes.old) (length tags.old) then replicate (length tags.old) 0 else tags.old) }
@@ -108,34 +85,43 @@ impl<'a> Flat<'a> {
         ensures fresh_bytes { flat_bytes result.bytes.now result.tags.now ≡ replicate (16 * flat_granules (length bytes.old) (length tags.old)) 0 }
         ensures fresh_tags { flat_tags result.bytes.now result.tags.now ≡ replicate (flat_granules (length bytes.old) (length tags.old)) false }
     {
-        if fits(bytes.len(), tags.len()) {
-            zero(&mut *bytes);
-            zero_tags(&mut *tags);
+        let Ok(granules) = Flat::check_sizes(&*bytes, &*tags) else {
+            return Flat {
+                bytes,
+                tags,
+                granules: 0,
+            };
+        };
+        zero(&mut *bytes);
+        zero(&mut *tags);
+        Flat {
+            bytes,
+            tags,
+            granules,
         }
-        Flat { bytes, tags }
     }
 
-    // The number of granules; 0 where the sizes do not fit.
-    fn count(&self) -> usize
-        ensures { GranulesOf self.now.bytes.now self.now.tags.now result }
+    // Whether there is a granule g.
+    fn check_granule(&self, g: usize) -> Result<(), MemoryFault>
+        ensures { result ≡ change_at g self.now.granules }
     {
-        if fits(self.bytes.len(), self.tags.len()) {
-            self.bytes.len() / 16
+        if g < self.granules {
+            Ok(())
         } else {
-            0
+            Err(MemoryFault::Bounds)
         }
     }
 
     // What granule g holds.
     fn granule(&self, g: usize) -> Granule
-        requires { 16 * g + 16 ≤ length self.now.bytes.now }
+        requires { g < self.now.granules }
         ensures { result ≡ granule_at self.now.bytes.now (bits_of self.now.tags.now) g }
     {
         Granule {
             tagged: bits::get(&*self.tags, g),
-            base: word_at(&*self.bytes, 16 * g),
-            top: word_at(&*self.bytes, 16 * g + 4),
-            permissions: u32::from(self.bytes[16 * g + 8]),
+            base: word_at(&*self.bytes, GRANULE_BYTES * g),
+            top: word_at(&*self.bytes, GRANULE_BYTES * g + 4),
+            permissions: u32::from(self.bytes[GRANULE_BYTES * g + 8]),
         }
     }
 }
@@ -154,40 +140,32 @@ impl<'a> TaggedMemory for Flat<'a> {
     ghost sure = { always_sure };
 
     fn granules(&self) -> usize {
-        self.count()
+        self.granules
     }
 
     fn may_hold(&self, g: usize) -> Result<bool, MemoryFault> {
-        if g < self.count() {
-            Ok(true)
-        } else {
-            Err(MemoryFault::Bounds)
-        }
+        self.check_granule(g)?;
+        Ok(true)
     }
 
     fn read_byte(&self, at: usize) -> Result<u8, MemoryFault> {
-        if at / 16 >= self.count() {
-            return Err(MemoryFault::Bounds);
-        }
+        self.check_granule(at / GRANULE_BYTES)?;
         Ok(self.bytes[at])
     }
 
     fn read_granule(&self, g: usize) -> Result<Granule, MemoryFault> {
-        if g >= self.count() {
-            return Err(MemoryFault::Bounds);
-        }
+        self.check_granule(g)?;
         Ok(self.granule(g))
     }
 
     fn store_byte(&mut self, at: usize, value: u8) -> Result<(), MemoryFault> {
-        if at / 16 >= self.count() {
-            return Err(MemoryFault::Bounds);
-        }
+        self.check_granule(at / GRANULE_BYTES)?;
         self.bytes[at] = value;
-        bits::put(&mut *self.tags, at / 16, false);
+        bits::put(&mut *self.tags, at / GRANULE_BYTES, false);
         Ok(())
     }
 
+    // Kept as it is: three numbers, since any numbers are accepted here and denied by their number.
     fn store_capability(
         &mut self,
         g: usize,
@@ -195,33 +173,29 @@ impl<'a> TaggedMemory for Flat<'a> {
         top: u32,
         permissions: u32,
     ) -> Result<(), MemoryFault> {
-        let all = self.count();
-        if g >= all {
-            return Err(MemoryFault::Bounds);
-        }
-        let Some(capability) = capability_within(16 * all, base, top, permissions) else {
-            return Err(MemoryFault::BadNum);
-        };
+        self.check_granule(g)?;
+        let size = GRANULE_BYTES * self.granules;
+        let capability = capability_within(size, base, top, permissions).ok_or(
+            MemoryFault::BadNum,
+        )?;
         put_image(&mut *self.bytes, g, capability);
         bits::put(&mut *self.tags, g, true);
         Ok(())
     }
 
     fn untag(&mut self, g: usize) -> Result<(), MemoryFault> {
-        if g >= self.count() {
-            return Err(MemoryFault::Bounds);
-        }
+        self.check_granule(g)?;
         bits::put(&mut *self.tags, g, false);
         Ok(())
     }
 
     fn wipe(&mut self, g: usize, n: usize) -> Result<(), MemoryFault> {
-        let all = self.count();
-        if g >= all || n > all - g {
+        self.check_granule(g)?;
+        if n > self.granules - g {
             return Err(MemoryFault::Bounds);
         }
         zero_granules(&mut *self.bytes, g, n);
-        clear_tags(&mut *self.tags, g, n);
+        bits::fill(&mut *self.tags, g, g + n, false);
         Ok(())
     }
 }
@@ -262,7 +236,8 @@ mod tests {
         let memory = Flat::new(&mut bytes, &mut tags);
         assert_eq!(rt; memory.granules(), 0);
         assert!(rt; memory.bytes.len() == 256);
-        assert_eq!(rt; memory.bytes[255], 7);
+        let last = memory.bytes[255];
+        assert_eq!(rt; last, 7);
     }
 
     #[test]

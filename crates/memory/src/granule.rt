@@ -1,5 +1,12 @@
+// The bytes of a granule.
+pub const GRANULE_BYTES: usize = 16;
+
+// The most granules of a memory.
+pub const MOST_GRANULES: usize = 1024;
+
 // What a granule holds: its tag, and the numbers at the places of a capability's image.
-#[derive(Clone, Copy)]
+// Kept as it is: the tag stands beside the numbers, since the numbers of an untagged granule are data too, and are read.
+#[derive(Clone, Copy, Debug, PartialEq, Eq)]
 pub struct Granule {
     pub tagged: bool,
     pub base: u32,
