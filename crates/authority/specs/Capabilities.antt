@@ -10,6 +10,7 @@ use Rattle.authority.specs.declared.bounds.Bounds.{Bounds}
 use Rattle.authority.specs.declared.permissions.Permissions.{Permissions}
 use Rattle.authority.specs.declared.meet.Pair.{Pair}
 use Rattle.authority.specs.declared.capability.Capability.{Capability}
+use Rattle.authority.specs.declared.numbers.Numbers.{Numbers}
 
 -- the authority of a capability: bounds and permissions side by side
 abbrev pub Authority : Type 0
@@ -23,6 +24,10 @@ top_of c = c.authority.first.top
 
 abbrev pub permissions_of : Capability → ℕ
 permissions_of c = c.authority.second.bits
+
+-- the three numbers of a capability
+abbrev pub numbers_of : Capability → Numbers
+numbers_of c = record { base = base_of c; top = top_of c; permissions = permissions_of c }
 
 -- the meet of two authorities, part by part
 abbrev pub meet_authority : Authority → Authority → Authority

@@ -3,6 +3,7 @@ ghost use Rattle.authority.specs.Spans.{most_bytes};
 
 use crate::bounds::Bounds;
 use crate::meet::{Pair, derive};
+use crate::numbers::Numbers;
 use crate::permissions::Permissions;
 
 // The bytes of the largest memory, and so the largest top of a capability.
@@ -20,7 +21,7 @@ pub struct Capability {
 }
 
 impl Capability {
-    ghost use Rattle.authority.specs.Capabilities.{capability_of, capability_over, meet_authority};
+    ghost use Rattle.authority.specs.Capabilities.{capability_of, capability_over, meet_authority, numbers_of};
 
     // The capability over an authority; none if its bounds are empty, or reach past the largest memory.
     #[tactic(auto, using(crate::proofs::Making::capability_empty, crate::proofs::Making::capability_past))]
@@ -33,15 +34,26 @@ impl Capability {
         Some(Capability { authority })
     }
 
-    // The capability of three numbers; none unless base is below top and the third is a permission number.
-    pub fn new(base: u32, top: u32, permissions: u32) -> Option<Capability>
-        ensures { result ≡ capability_of base top permissions }
+    // The capability of some numbers; none unless base is below top and the third is a permission number.
+    pub fn new(numbers: Numbers) -> Option<Capability>
+        ensures { result ≡ capability_of numbers.base numbers.top numbers.permissions }
     {
-        let second = Permissions::from_number(permissions)?;
+        let second = Permissions::from_number(numbers.permissions)?;
         Capability::over(Pair {
-            first: Bounds::between(base, top),
+            first: Bounds::between(numbers.base, numbers.top),
             second,
         })
+    }
+
+    // Its numbers. They make the capability again.
+    pub fn numbers(self) -> Numbers
+        ensures { result ≡ numbers_of self }
+    {
+        Numbers {
+            base: self.base(),
+            top: self.top(),
+            permissions: self.permissions().number(),
+        }
     }
 
     // The capability narrowed to what is wanted; none if its bounds become empty.

@@ -2,6 +2,7 @@ ghost use Rattle.std.specs.Prelude.{◌≡◌, ◌+◌, slice_index};
 ghost use Rattle.authority.specs.Images.{ImageReadsBack, image_of, read_image, word_at};
 
 use crate::capability::Capability;
+use crate::numbers::Numbers;
 
 // The byte k places after another; 0 past the end.
 fn byte_after(bytes: &[u8], at: usize, k: usize) -> u8
@@ -36,6 +37,10 @@ impl Capability {
         ensures value { result ≡ read_image image.now }
         ensures back { ImageReadsBack }
     {
-        Capability::new(word_at(image, 0), word_at(image, 4), u32::from(image[8]))
+        Capability::new(Numbers {
+            base: word_at(image, 0),
+            top: word_at(image, 4),
+            permissions: u32::from(image[8]),
+        })
     }
 }

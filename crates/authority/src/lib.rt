@@ -5,5 +5,6 @@ pub mod bounds;
 pub mod capability;
 pub mod image;
 pub mod meet;
+pub mod numbers;
 pub mod permission;
 pub mod permissions;

@@ -141,7 +141,7 @@ abbrev putc_from : State → ℕ → Capability → Capability → Effect
 putc_from s off a b = unless (allows (permissions_of a) P.Store && allows (permissions_of a) P.Capabilities) F.Perm (at_granule (granule_answer a off) (putc_at s b))
 
 abbrev getc_granule : State → ℕ → ℕ → Granule → Effect
-getc_granule s c t x = unless x.tagged F.NoCap (loaded s c t (capability_of x.base x.top x.permissions))
+getc_granule s c t x = unless x.tagged F.NoCap (loaded s c t (capability_of x.numbers.base x.numbers.top x.numbers.permissions))
 
 abbrev getc_at : State → ℕ → ℕ → ℕ → Effect
 getc_at s c t g = by_memory (granule_read s.bytes s.tags g) (getc_granule s c t)
@@ -310,7 +310,7 @@ module _ (m : Group) (K : Fixed) (s t : State) (b c : Ledger) (v : Inv K s b) (v
       let f₀ = sym (reg_slot t n r q.1) ∙ e' in
       two_memory _ _ {k = getc_granule s n u} {l = getc_granule t n u} (λ i. cond (ltb g (l_tags i)) (Ok (alike i)) (Err T.Bounds)) λ y _.
       two_unless _ _ _ refl λ tag.
-      two_loaded s t n u (capability_of y.base y.top y.permissions) o.sweep o.painted λ a₂. (
+      two_loaded s t n u (capability_of y.numbers.base y.numbers.top y.numbers.permissions) o.sweep o.painted λ a₂. (
         refl,
         subst (λ (j : Option Entry). Core m (with_register s n u (Some a₂)) (with_register t n u (Some a₂)) (noted_load b j off (slot n u)) (noted_load c (c.registers (slot n r)) off (slot n u))) (sym (v.regs (slot n r) a e₀).recorded)
             (subst (λ (j : Option Entry). Core m (with_register s n u (Some a₂)) (with_register t n u (Some a₂)) (with_entry b (slot n u) (b.granules ((base_of a + off) / 16))) (noted_load c j off (slot n u))) (sym (v'.regs (slot n r) a f₀).recorded)

@@ -163,7 +163,7 @@ view K s (Call.Getc c r off t) = on_unless _ _ λ num. on_held _ λ a e. on_unle
     let q = register_is c r x.0 in
     let p = and_parts (allows (permissions_of a) P.Load) (allows (permissions_of a) P.Capabilities) perm in
     let h = granule_is a off g at in
-    subst (λ (i : ℕ). View K s (Call.Getc c r off t) (by_memory (granule_read s.bytes s.tags i) λ x. unless x.tagged NoCap (loaded s c t (capability_of x.base x.top x.permissions)))) (sym h.2)
+    subst (λ (i : ℕ). View K s (Call.Getc c r off t) (by_memory (granule_read s.bytes s.tags i) λ x. unless x.tagged NoCap (loaded s c t (capability_of x.numbers.base x.numbers.top x.numbers.permissions)))) (sym h.2)
     (there (base_of a + off) (ltb ((base_of a + off) / 16) (length s.tags)) (λ b tag cap new. v_getc a b q.0 q.1 w.1 e p.0 p.1 h.0 h.1 tag cap new))
   where
     take : (i : ℕ) (o : Option Capability) → capability_at s.bytes (i / 16) ≡ o
@@ -174,7 +174,7 @@ view K s (Call.Getc c r off t) = on_unless _ _ λ num. on_held _ λ a e. on_unle
 
     there : (i : ℕ) (u : Bool)
         → ((b : Capability) → get_or s.tags (i / 16) false ≡ true → capability_at s.bytes (i / 16) ≡ Some b → is_revoked s.sweep s.painted b ≡ false → View K s (Call.Getc c r off t) (accepted 0 (with_register s c t (Some b))))
-        → View K s (Call.Getc c r off t) (by_memory (cond u (Ok (granule_at s.bytes s.tags (i / 16))) (Err T.Bounds)) λ x. unless x.tagged NoCap (loaded s c t (capability_of x.base x.top x.permissions)))
+        → View K s (Call.Getc c r off t) (by_memory (cond u (Ok (granule_at s.bytes s.tags (i / 16))) (Err T.Bounds)) λ x. unless x.tagged NoCap (loaded s c t (capability_of x.numbers.base x.numbers.top x.numbers.permissions)))
     there i true h = on_unless _ _ λ tag. take i (capability_at s.bytes (i / 16)) refl (λ b. h b tag)
     there i false h = v_no
 view K s (Call.Give c r d t) =

@@ -140,7 +140,7 @@ getc_rule s c r off t =
     (at_granule (granule_answer a off) λ g.
     by_memory (granule_read s.bytes s.tags g) λ x.
     unless x.tagged NoCap
-    (loaded s c t (capability_of x.base x.top x.permissions))))
+    (loaded s c t (capability_of x.numbers.base x.numbers.top x.numbers.permissions))))
 
 -- give c r d s: register r of c is copied to the empty register s of d
 abbrev pub give_rule : State → ℕ → ℕ → ℕ → ℕ → Effect

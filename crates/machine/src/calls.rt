@@ -7,11 +7,11 @@ use crate::compartment_machine::CompartmentMachine;
 use crate::fault::MachineFault;
 use crate::machine::Machine;
 use crate::slot::Slot;
-use crate::store::store_image;
 use allocator::allocator::Allocator;
 use authority::bounds::Bounds;
 use authority::capability::Capability;
 use authority::meet::Pair;
+use authority::numbers::Numbers;
 use authority::permission::Permission;
 use authority::permissions::{ALL_PERMISSIONS, Permissions};
 use memory::tagged_memory::TaggedMemory;
@@ -36,10 +36,12 @@ impl<M: TaggedMemory, B: Allocator> CompartmentMachine for Machine<M, B> {
             return Err(MachineFault::Sizes);
         }
         let base = 16 * self.allocator.allocate(granules as usize)? as u32;
-        self.registers.put(
-            slot,
-            Capability::new(base, base + 16 * granules, ALL_PERMISSIONS),
-        );
+        let granted = Capability::new(Numbers {
+            base,
+            top: base + 16 * granules,
+            permissions: ALL_PERMISSIONS,
+        });
+        self.registers.put(slot, granted);
         Ok(base)
     }
 
@@ -94,6 +96,7 @@ impl<M: TaggedMemory, B: Allocator> CompartmentMachine for Machine<M, B> {
         Ok(0)
     }
 
+    #[tactic(auto, using(authority::proofs::Making::numbers_back))]
     fn putc(
         &mut self,
         compartment: u32,
@@ -109,7 +112,7 @@ impl<M: TaggedMemory, B: Allocator> CompartmentMachine for Machine<M, B> {
         check_permission(held, Permission::Store)?;
         check_permission(held, Permission::Capabilities)?;
         let g = granule_at(held, offset)?;
-        store_image(&mut self.memory, g, stored)?;
+        self.memory.store_capability(g, stored.numbers())?;
         Ok(0)
     }
 
@@ -131,9 +134,7 @@ impl<M: TaggedMemory, B: Allocator> CompartmentMachine for Machine<M, B> {
         if !granule.tagged {
             return Err(MachineFault::NoCap);
         }
-        let loaded = Capability::new(granule.base, granule.top, granule.permissions).ok_or(
-            MachineFault::NoCap,
-        )?;
+        let loaded = Capability::new(granule.numbers).ok_or(MachineFault::NoCap)?;
         self.registers.put(target, Some(loaded));
         Ok(0)
     }

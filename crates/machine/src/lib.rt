@@ -10,4 +10,3 @@ pub mod machine;
 pub mod numbered;
 pub mod registers;
 mod slot;
-mod store;

@@ -22,7 +22,10 @@ byte_read bs at = cond (nat_lt at (length bs)) (Ok (slice_index bs at)) (Err Bou
 
 -- a granule's tag, and the numbers at the image's places
 abbrev pub granule_at : List ℕ → List Bool → ℕ → Granule
-granule_at bs ts g = record { tagged = slice_index_or ts g false; base = word_at bs (16 * g); top = word_at bs (16 * g + 4); permissions = slice_index bs (16 * g + 8) }
+granule_at bs ts g = record {
+  tagged = slice_index_or ts g false;
+  numbers = record { base = word_at bs (16 * g); top = word_at bs (16 * g + 4); permissions = slice_index bs (16 * g + 8) };
+}
 
 abbrev pub granule_read : List ℕ → List Bool → ℕ → Result Granule MemoryFault
 granule_read bs ts g = cond (nat_lt g (length ts)) (Ok (granule_at bs ts g)) (Err Bounds)

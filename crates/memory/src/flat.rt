@@ -11,6 +11,7 @@ use crate::granule::{GRANULE_BYTES, Granule, MOST_GRANULES};
 use crate::tagged_memory::TaggedMemory;
 use authority::capability::Capability;
 use authority::image::word_at;
+use authority::numbers::Numbers;
 
 // Tagged memory over two lent buffers: 16 bytes of data for each granule, and its tag as one bit.
 // The number of granules is 0 where the sizes of the buffers do not fit.
@@ -55,12 +56,12 @@ fn put_image(bytes: &mut [u8], g: usize, capability: Capability)
     bytes[GRANULE_BYTES * g..GRANULE_BYTES * (g + 1)].copy_from_slice(&image);
 }
 
-// The capability of three numbers, if it ends within `size` bytes.
-fn capability_within(size: usize, base: u32, top: u32, permissions: u32) -> Option<Capability>
-    ensures answer { result ≡ reaching size (capability_of base top permissions) }
-    ensures made { IfSome result (λ c. capability_of base top permissions ≡ Some c) }
+// The capability of some numbers, if it ends within `size` bytes.
+fn capability_within(size: usize, numbers: Numbers) -> Option<Capability>
+    ensures answer { result ≡ reaching size (capability_of numbers.base numbers.top numbers.permissions) }
+    ensures made { IfSome result (λ c. capability_of numbers.base numbers.top numbers.permissions ≡ Some c) }
 {
-    Capability::new(base, top, permissions).filter(|c| c.top() as usize <= size)
+    Capability::new(numbers).filter(|c| c.top() as usize <= size)
 }
 
 impl<'a> Flat<'a> {
@@ -119,9 +120,11 @@ impl<'a> Flat<'a> {
     {
         Granule {
             tagged: bits::get(&*self.tags, g),
-            base: word_at(&*self.bytes, GRANULE_BYTES * g),
-            top: word_at(&*self.bytes, GRANULE_BYTES * g + 4),
-            permissions: u32::from(self.bytes[GRANULE_BYTES * g + 8]),
+            numbers: Numbers {
+                base: word_at(&*self.bytes, GRANULE_BYTES * g),
+                top: word_at(&*self.bytes, GRANULE_BYTES * g + 4),
+                permissions: u32::from(self.bytes[GRANULE_BYTES * g + 8]),
+            },
         }
     }
 }
@@ -165,19 +168,10 @@ impl<'a> TaggedMemory for Flat<'a> {
         Ok(())
     }
 
-    // Kept as it is: three numbers, since any numbers are accepted here and denied by their number.
-    fn store_capability(
-        &mut self,
-        g: usize,
-        base: u32,
-        top: u32,
-        permissions: u32,
-    ) -> Result<(), MemoryFault> {
+    fn store_capability(&mut self, g: usize, numbers: Numbers) -> Result<(), MemoryFault> {
         self.check_granule(g)?;
         let size = GRANULE_BYTES * self.granules;
-        let capability = capability_within(size, base, top, permissions).ok_or(
-            MemoryFault::BadNum,
-        )?;
+        let capability = capability_within(size, numbers).ok_or(MemoryFault::BadNum)?;
         put_image(&mut *self.bytes, g, capability);
         bits::put(&mut *self.tags, g, true);
         Ok(())
@@ -244,7 +238,12 @@ mod tests {
     fn a_byte_stored_over_a_capability_clears_its_tag(rt: HostRuntime) {
         let (mut bytes, mut tags) = ([7u8; 256], [7u8; 2]);
         let mut memory = Flat::new(&mut bytes, &mut tags);
-        assert!(rt; memory.store_capability(15, 3, 256, 31).is_ok());
+        let numbers = Numbers {
+            base: 3,
+            top: 256,
+            permissions: 31,
+        };
+        assert!(rt; memory.store_capability(15, numbers).is_ok());
         assert_eq!(rt; stored(&memory), (true, 3, 256, 31));
         assert!(rt; memory.store_byte(244, 9).is_ok());
         assert_eq!(rt; stored(&memory), (false, 3, 265, 31));
@@ -254,9 +253,9 @@ mod tests {
         match memory.read_granule(15) {
             Ok(granule) => (
                 granule.tagged,
-                granule.base,
-                granule.top,
-                granule.permissions,
+                granule.numbers.base,
+                granule.numbers.top,
+                granule.numbers.permissions,
             ),
             Err(_) => (false, 0, 0, 0),
         }

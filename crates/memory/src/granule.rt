@@ -1,3 +1,5 @@
+use authority::numbers::Numbers;
+
 // The bytes of a granule.
 pub const GRANULE_BYTES: usize = 16;
 
@@ -9,7 +11,5 @@ pub const MOST_GRANULES: usize = 1024;
 #[derive(Clone, Copy, Debug, PartialEq, Eq)]
 pub struct Granule {
     pub tagged: bool,
-    pub base: u32,
-    pub top: u32,
-    pub permissions: u32,
+    pub numbers: Numbers,
 }

@@ -5,6 +5,7 @@ ghost use Rattle.std.proofs.Math.Seq.{paste};
 
 use crate::fault::MemoryFault;
 use crate::granule::Granule;
+use authority::numbers::Numbers;
 
 // A memory of 16-byte granules, each with a tag. Its model is the list of bytes and the list of tags.
 pub trait TaggedMemory {
@@ -44,16 +45,10 @@ pub trait TaggedMemory {
         ensures tags { tags self.new ≡ slice_set (tags self.old) (at / 16) false }
         ensures denied { is_ok result ≡ false → self.new ≡ self.old };
 
-    // Stores the image of the capability of three numbers, and sets the tag.
-    fn store_capability(
-        &mut self,
-        g: usize,
-        base: u32,
-        top: u32,
-        permissions: u32,
-    ) -> Result<(), MemoryFault>
-        ensures answer { result ≡ capability_stored (bytes self.old) (tags self.old) g base top permissions }
-        ensures bytes { bytes self.new ≡ (if is_ok result then with_image (bytes self.old) g (capability_of base top permissions) else bytes self.old) }
+    // Stores the image of the capability of some numbers, and sets the tag. Any numbers are taken: BADNUM if they make none.
+    fn store_capability(&mut self, g: usize, numbers: Numbers) -> Result<(), MemoryFault>
+        ensures answer { result ≡ capability_stored (bytes self.old) (tags self.old) g numbers.base numbers.top numbers.permissions }
+        ensures bytes { bytes self.new ≡ (if is_ok result then with_image (bytes self.old) g (capability_of numbers.base numbers.top numbers.permissions) else bytes self.old) }
         ensures tags { tags self.new ≡ (if is_ok result then slice_set (tags self.old) g true else tags self.old) }
         ensures denied { is_ok result ≡ false → self.new ≡ self.old };
 

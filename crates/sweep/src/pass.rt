@@ -31,9 +31,9 @@ fn must_look<M: TaggedMemory>(memory: &M, g: usize) -> bool
 
 // Whether a granule holds a capability whose base is painted.
 fn is_revoked(quarantine: &Quarantine, granule: Granule) -> bool
-    ensures { result ≡ (granule.tagged && in_runs (painted_of quarantine.now) (granule.base / 16)) }
+    ensures { result ≡ (granule.tagged && in_runs (painted_of quarantine.now) (granule.numbers.base / 16)) }
 {
-    granule.tagged && quarantine.is_painted(granule.base as usize / 16)
+    granule.tagged && quarantine.is_painted(granule.numbers.base as usize / 16)
 }
 
 // Whether granule g is to lose its tag.
