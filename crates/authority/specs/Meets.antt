@@ -2,9 +2,14 @@
 use Rattle.std.specs.Prelude.{◌≡◌, ℕ, ◌+◌, ◌*◌, ◌/◌, ◌%◌, min, true, bit_and, refl}
 use Rattle.std.proofs.Common.{sym, ◌∙◌, ap₂, arith}
 use Rattle.std.proofs.Math.Arith.{bin_ind}
-use Rattle.std.specs.Int.Bits.{and_step}
 use Rattle.std.proofs.lemmas.Bool.Decides.{nat_tests}
+use Rattle.std.proofs.lemmas.Nat.{and_comm}
+use Rattle.std.specs.Int.Bits.{and_self, and_step}
 use Rattle.authority.specs.Spans.{is_span, shared_base, shared_top}
+use Rattle.authority.specs.BoundsMeet.{meet_bounds, same_bounds}
+use Rattle.authority.specs.PermissionsMeet.{meet_permissions, same_permissions}
+use Rattle.authority.specs.declared.bounds.Bounds.{Bounds}
+use Rattle.authority.specs.declared.permissions.Permissions.{Permissions}
 
 min_assoc : (x y z : ℕ) → min (min x y) z ≡ min x (min y z)
 min_assoc x y z = omega arith
@@ -24,25 +29,51 @@ halves_assoc n b c ih =
     l ∙ (ap₂ (λ x y. x * 2 + y) ih (min_assoc (n % 2) (b % 2) (c % 2)) ∙ sym r)
 
 -- the bits of three numbers, in either order
-pub and_assoc : (a b c : ℕ) → bit_and (bit_and a b) c ≡ bit_and a (bit_and b c)
+and_assoc : (a b c : ℕ) → bit_and (bit_and a b) c ≡ bit_and a (bit_and b c)
 and_assoc a =
     bin_ind (λ (n : ℕ). (b c : ℕ) → bit_and (bit_and n b) c ≡ bit_and n (bit_and b c)) (λ b c. refl)
     (λ n ih b c. halves_assoc n b c (ih (b / 2) (c / 2))) a
 
-pub base_assoc : (a b c d e f : ℕ) → shared_base (shared_base a b c d) (shared_top a b c d) e f ≡ shared_base a b (shared_base c d e f) (shared_top c d e f)
+base_assoc : (a b c d e f : ℕ) → shared_base (shared_base a b c d) (shared_top a b c d) e f ≡ shared_base a b (shared_base c d e f) (shared_top c d e f)
 base_assoc a b c d e f = grind (arith, nat_tests)
 
-pub top_assoc : (a b c d e f : ℕ) → shared_top (shared_base a b c d) (shared_top a b c d) e f ≡ shared_top a b (shared_base c d e f) (shared_top c d e f)
+top_assoc : (a b c d e f : ℕ) → shared_top (shared_base a b c d) (shared_top a b c d) e f ≡ shared_top a b (shared_base c d e f) (shared_top c d e f)
 top_assoc a b c d e f = grind (arith, nat_tests)
 
-pub base_comm : (a b c d : ℕ) → shared_base a b c d ≡ shared_base c d a b
+base_comm : (a b c d : ℕ) → shared_base a b c d ≡ shared_base c d a b
 base_comm a b c d = grind (arith, nat_tests)
 
-pub top_comm : (a b c d : ℕ) → shared_top a b c d ≡ shared_top c d a b
+top_comm : (a b c d : ℕ) → shared_top a b c d ≡ shared_top c d a b
 top_comm a b c d = grind (arith, nat_tests)
 
-pub base_self : (a b : ℕ) → is_span a b ≡ true → shared_base a b a b ≡ a
+base_self : (a b : ℕ) → is_span a b ≡ true → shared_base a b a b ≡ a
 base_self a b h = grind (arith, nat_tests)
 
-pub top_self : (a b : ℕ) → is_span a b ≡ true → shared_top a b a b ≡ b
+top_self : (a b : ℕ) → is_span a b ≡ true → shared_top a b a b ≡ b
 top_self a b h = grind (arith, nat_tests)
+
+-- the laws of the meet of bounds
+pub bounds_assoc : (x y z : Bounds) → meet_bounds (meet_bounds x y) z ≡ meet_bounds x (meet_bounds y z)
+unfolding meet_bounds
+bounds_assoc x y z = same_bounds _ _ (base_assoc x.base x.top y.base y.top z.base z.top) (top_assoc x.base x.top y.base y.top z.base z.top)
+
+pub bounds_comm : (x y : Bounds) → meet_bounds x y ≡ meet_bounds y x
+unfolding meet_bounds
+bounds_comm x y = same_bounds _ _ (base_comm x.base x.top y.base y.top) (top_comm x.base x.top y.base y.top)
+
+pub bounds_self : (x : Bounds) → meet_bounds x x ≡ x
+unfolding meet_bounds
+bounds_self x = same_bounds _ _ (base_self x.base x.top x.span) (top_self x.base x.top x.span)
+
+-- the laws of the meet of permissions
+pub permissions_assoc : (x y z : Permissions) → meet_permissions (meet_permissions x y) z ≡ meet_permissions x (meet_permissions y z)
+unfolding meet_permissions
+permissions_assoc x y z = same_permissions _ _ (and_assoc x.bits y.bits z.bits)
+
+pub permissions_comm : (x y : Permissions) → meet_permissions x y ≡ meet_permissions y x
+unfolding meet_permissions
+permissions_comm x y = same_permissions _ _ (and_comm x.bits y.bits)
+
+pub permissions_self : (x : Permissions) → meet_permissions x x ≡ x
+unfolding meet_permissions
+permissions_self x = same_permissions _ _ (and_self x.bits)

@@ -1,9 +1,7 @@
-ghost use Rattle.authority.specs.BoundsMeet.{meet_bounds, same_bounds};
-ghost use Rattle.authority.specs.PermissionsMeet.{meet_permissions, same_permissions};
+ghost use Rattle.authority.specs.BoundsMeet.{meet_bounds};
+ghost use Rattle.authority.specs.PermissionsMeet.{meet_permissions};
 ghost use Rattle.std.specs.Prelude.{◌≡◌};
-ghost use Rattle.authority.specs.Meets.{base_assoc, top_assoc, base_comm, top_comm, base_self, top_self, and_assoc};
-ghost use Rattle.std.proofs.lemmas.Nat.{and_comm};
-ghost use Rattle.std.specs.Int.Bits.{and_self};
+ghost use Rattle.authority.specs.Meets.{bounds_assoc, bounds_comm, bounds_self, permissions_assoc, permissions_comm, permissions_self};
 ghost use Rattle.std.proofs.Common.{rules};
 
 use crate::bounds::Bounds;
@@ -36,11 +34,11 @@ pub fn derive<K: MeetSemilattice>(held: K, wanted: K) -> K
 impl MeetSemilattice for Bounds {
     ghost met = { meet_bounds };
 
-    ghost associative = { unfold meet_bounds in λ x y z. same_bounds _ _ (base_assoc x.base x.top y.base y.top z.base z.top) (top_assoc x.base x.top y.base y.top z.base z.top) };
+    ghost associative = { bounds_assoc };
 
-    ghost commutative = { unfold meet_bounds in λ x y. same_bounds _ _ (base_comm x.base x.top y.base y.top) (top_comm x.base x.top y.base y.top) };
+    ghost commutative = { bounds_comm };
 
-    ghost idempotent = { unfold meet_bounds in λ x. same_bounds _ _ (base_self x.base x.top x.span) (top_self x.base x.top x.span) };
+    ghost idempotent = { bounds_self };
 
     #[tactic(auto, using(crate::specs::BoundsMeet::same_bounds), unfolding(crate::specs::BoundsMeet::meet_bounds))]
     fn meet(self, other: Bounds) -> Bounds {
@@ -51,11 +49,11 @@ impl MeetSemilattice for Bounds {
 impl MeetSemilattice for Permissions {
     ghost met = { meet_permissions };
 
-    ghost associative = { unfold meet_permissions in λ x y z. same_permissions _ _ (and_assoc x.bits y.bits z.bits) };
+    ghost associative = { permissions_assoc };
 
-    ghost commutative = { unfold meet_permissions in λ x y. same_permissions _ _ (and_comm x.bits y.bits) };
+    ghost commutative = { permissions_comm };
 
-    ghost idempotent = { unfold meet_permissions in λ x. same_permissions _ _ (and_self x.bits) };
+    ghost idempotent = { permissions_self };
 
     #[tactic(auto, using(crate::specs::PermissionsMeet::same_permissions), unfolding(crate::specs::PermissionsMeet::meet_permissions))]
     fn meet(self, other: Permissions) -> Permissions {

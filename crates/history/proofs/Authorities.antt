@@ -1,6 +1,5 @@
 -- The laws of the meet of authorities, and what a capability made of them is.
 use Rattle.std.proofs.Common.{◌≡◌, ℕ, ◌<◌, ◌≤◌, Bool, true, false, ltb, leb, Some, None, Option, sym, refl, ap, ◌∙◌, inl, inr, arith}
-use lib.Bits.{and_comm, and_self}
 use Rattle.std.proofs.lemmas.Bool.{cases_Bool, cond-true, cond-false}
 use Rattle.std.proofs.lemmas.Bool.Decides.{nat_tests}
 use Rattle.authority.specs.Spans.{is_within, shared_base, shared_top}
@@ -11,32 +10,8 @@ use Rattle.authority.specs.Capabilities.{Authority, base_of, top_of, permissions
 use Rattle.authority.specs.declared.bounds.Bounds.{Bounds}
 use Rattle.authority.specs.declared.capability.Capability.{Capability}
 use Rattle.authority.specs.declared.permissions.Permissions.{Permissions}
-use Rattle.authority.specs.Meets.{and_assoc, base_assoc, base_comm, base_self, top_assoc, top_comm, top_self}
+use Rattle.authority.specs.Meets.{bounds_assoc, bounds_comm, bounds_self, permissions_assoc, permissions_comm, permissions_self}
 use Rattle.history.proofs.Base.{some_none, some_same}
-
-bounds_assoc : (x y z : Bounds) → meet_bounds (meet_bounds x y) z ≡ meet_bounds x (meet_bounds y z)
-unfolding meet_bounds
-bounds_assoc x y z = same_bounds _ _ (base_assoc x.base x.top y.base y.top z.base z.top) (top_assoc x.base x.top y.base y.top z.base z.top)
-
-bounds_comm : (x y : Bounds) → meet_bounds x y ≡ meet_bounds y x
-unfolding meet_bounds
-bounds_comm x y = same_bounds _ _ (base_comm x.base x.top y.base y.top) (top_comm x.base x.top y.base y.top)
-
-bounds_self : (x : Bounds) → meet_bounds x x ≡ x
-unfolding meet_bounds
-bounds_self x = same_bounds _ _ (base_self x.base x.top x.span) (top_self x.base x.top x.span)
-
-permissions_assoc : (x y z : Permissions) → meet_permissions (meet_permissions x y) z ≡ meet_permissions x (meet_permissions y z)
-unfolding meet_permissions
-permissions_assoc x y z = same_permissions _ _ (and_assoc x.bits y.bits z.bits)
-
-permissions_comm : (x y : Permissions) → meet_permissions x y ≡ meet_permissions y x
-unfolding meet_permissions
-permissions_comm x y = same_permissions _ _ (and_comm x.bits y.bits)
-
-permissions_self : (x : Permissions) → meet_permissions x x ≡ x
-unfolding meet_permissions
-permissions_self x = same_permissions _ _ (and_self x.bits)
 
 pub meet_assoc : (x y z : Authority) → meet_authority (meet_authority x y) z ≡ meet_authority x (meet_authority y z)
 meet_assoc x y z = λ i. record { first = bounds_assoc x.first y.first z.first i; second = permissions_assoc x.second y.second z.second i }

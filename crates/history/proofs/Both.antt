@@ -132,7 +132,7 @@ module _ (m : Group) (K : Fixed) (s t : State) (b c : Ledger) (v : Inv K s b) (v
       let q = word_alike i (16 * (i / 16) + 4) u (omega arith) (omega arith) in
       let x = byte_alike i (16 * (i / 16) + 8) u (omega arith) in
       let y = o.tags i u in
-      λ j. record { tagged = y j; base = p j; top = q j; permissions = x j }
+      λ j. record { tagged = y j; numbers = record { base = p j; top = q j; permissions = x j } }
 
   pub core_pass : (p k : ℕ) → Core m (with_passed s p k) (with_passed t p k) b c
   core_pass p k = record {
