@@ -3,7 +3,7 @@ ghost use Rattle.std.specs.Prelude.{◌≡◌, ◌+◌, min, true, [], length};
 ghost use Rattle.bits.specs.Bits.{bits_of, filled};
 ghost use Rattle.quarantine.specs.Runs.{shadow_of};
 
-use crate::run::Run;
+use crate::run::{Run, SHADOW_BYTES};
 use bits::fill;
 
 // Sets the bits of a run.
@@ -14,19 +14,19 @@ fn paint(shadow: &mut [u8], run: Run)
 }
 
 // The bitmap with no bit set.
-pub(crate) fn unpainted() -> [u8; 128]
+pub(crate) fn unpainted() -> [u8; SHADOW_BYTES]
     ensures { bits_of result ≡ shadow_of [] }
 {
-    [0; 128]
+    [0; SHADOW_BYTES]
 }
 
 // The bitmap of some runs.
-pub(crate) fn shade(runs: &[Run]) -> [u8; 128]
+pub(crate) fn shade(runs: &[Run]) -> [u8; SHADOW_BYTES]
     ensures { bits_of result ≡ shadow_of runs.now }
 {
     let mut shadow = unpainted();
-    for i in 0..runs.len() {
-        paint(&mut shadow, runs[i]);
+    for run in runs {
+        paint(&mut shadow, *run);
     }
     shadow
 }

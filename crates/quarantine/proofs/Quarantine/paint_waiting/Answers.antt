@@ -11,8 +11,9 @@ returns c =
     let e = c.paint-self.ensures in
     let none : q.counts.painted ≡ 0 = eqb-true q.counts.painted 0 (sym (ap (λ s. is_at_rest s q.counts.painted) c.requires) ∙ q.rested) in
     let p : take c.paint-self.result.painted q.runs ≡ waiting_of q =
-    ap (λ k. take k.painted q.runs) e ∙ ap (λ n. drop n (take q.counts.held q.runs)) (sym none) in
+    ap (λ k. take k q.runs) e.painted ∙ ap (λ n. drop n (take q.counts.held q.runs)) (sym none) in
     let w : drop c.paint-self.result.painted (take c.paint-self.result.held q.runs) ≡ [] =
-    ap (λ k. drop k.painted (take k.held q.runs)) e ∙ part_none q.runs q.counts.held (omega arith) in
+    ap (λ k. drop k (take c.paint-self.result.held q.runs)) e.painted
+    ∙ (ap (λ k. drop q.counts.held (take k q.runs)) e.held ∙ part_none q.runs q.counts.held (omega arith)) in
     let s = c.begun-self.ensures in
     λ i. record { painted = p i; waiting = w i; sweep = s i }

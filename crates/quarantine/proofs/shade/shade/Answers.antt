@@ -6,14 +6,16 @@ use Rattle.quarantine.specs.declared.run.Run.{Run}
 use Rattle.quarantine.proofs.Shadows.{shadow_more}
 use Rattle.quarantine.proofs.shade.shade.Goals as goal
 
-pub loop-i-preserved : goal.loop-i-preserved
-loop-i-preserved c =
-    let r : Run = get_or c.args.runs.now c.loop-i.i (record { start = 0; length = 0 }) in (
-      c.paint.auto.shadow ∙ c.loop-i.invariant.0,
-      c.paint.ensures
-          ∙ (ap (λ xs. filled xs r.start (min (r.start + r.length) 1024) true) c.loop-i.invariant.1
-          ∙ shadow_more c.args.runs.now c.loop-i.i r (record { start = 0; length = 0 }) c.loop-i-test.true refl),
-    )
+pub loop-run-preserved : goal.loop-run-preserved
+loop-run-preserved c =
+    let runs = c.args.runs.now in
+    let r : Run = get_or runs c.loop-run.run-index (record { start = 0; length = 0 }) in record {
+      size = c.paint.auto.shadow ∙ c.loop-run.invariant.size;
+      shaded =
+          c.paint.ensures
+          ∙ (ap (λ xs. filled xs r.start (min (r.start + r.length) 1024) true) c.loop-run.invariant.shaded
+          ∙ shadow_more runs c.loop-run.run-index r (record { start = 0; length = 0 }) (omega arith) refl);
+    }
 
 pub returns : goal.returns
-returns c = c.loop-i.invariant.1 ∙ ap shadow_of (take_all c.loop-i.i c.args.runs.now (omega arith))
+returns c = c.loop-run.invariant.shaded ∙ ap shadow_of (take_all c.loop-run.run-index c.args.runs.now (omega arith))
