@@ -1,4 +1,3 @@
 pub mod Finds
 pub mod Parts
-pub mod Same
 pub mod Shadows

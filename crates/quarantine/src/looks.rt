@@ -1,16 +1,15 @@
 // A new quarantine, and what the quarantine answers without a change.
-ghost use Rattle.std.specs.Prelude.{◌≡◌, ◌+◌, ◌<◌, [], length, take, IfOk};
-ghost use Rattle.bits.specs.Bits.{bits_of};
+ghost use Rattle.std.specs.Prelude.{◌≡◌, ◌+◌, ◌<◌, [], length, IfOk};
 ghost use Rattle.quarantine.specs.Kept.{join_answer, painted_of, waiting_of};
-ghost use Rattle.quarantine.specs.Runs.{begins_at, in_runs, most_runs, shadow_of};
+ghost use Rattle.quarantine.specs.Runs.{begins_at, in_runs, most_runs};
 ghost use Rattle.quarantine.specs.declared.sweep.Sweep.TheVariants.{Idle};
 ghost use Rattle.std.specs.List.{slice_get};
 
 use crate::Quarantine;
 use crate::counts::Counts;
 use crate::fault::QuarantineFault;
-use crate::run::{MOST_RUNS, Run, SHADOW_BYTES, SHADOW_GRANULES};
-use crate::shade::{shade, unpainted};
+use crate::run::{MOST_RUNS, Run, SHADOW_GRANULES};
+use crate::shade::unpainted;
 use crate::sweep::Sweep;
 use bits::get;
 
@@ -57,7 +56,7 @@ impl Quarantine {
     pub fn waits(&self, start: usize) -> bool
         ensures { result ≡ begins_at (waiting_of self.now) start }
     {
-        self.waiting().iter().any(|run| run.begins(start))
+        self.waiting().iter().any(|run| run.start == start)
     }
 
     // Whether a granule lies in a painted run.
@@ -90,12 +89,5 @@ impl Quarantine {
             return Err(QuarantineFault::QFull);
         }
         Ok(())
-    }
-
-    // The bitmap of all runs held.
-    pub(crate) fn shade_held(&self) -> [u8; SHADOW_BYTES]
-        ensures { bits_of result ≡ shadow_of (take self.now.counts.held self.now.runs) }
-    {
-        shade(&self.runs[..self.counts.held])
     }
 }

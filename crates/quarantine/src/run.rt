@@ -1,5 +1,5 @@
 // Runs of granules.
-ghost use Rattle.std.specs.Prelude.{◌≡◌, ◌+◌, min, ◌==◌};
+ghost use Rattle.std.specs.Prelude.{◌≡◌, ◌+◌, min};
 ghost use Rattle.quarantine.specs.Runs.{in_run};
 
 // The most runs that the quarantine holds.
@@ -23,13 +23,6 @@ impl Run {
         ensures { result ≡ in_run self g }
     {
         self.start <= g && g - self.start < self.length
-    }
-
-    // Whether the run begins at granule g.
-    pub(crate) fn begins(self, g: usize) -> bool
-        ensures { result ≡ (self.start == g) }
-    {
-        self.start == g
     }
 
     // The end of the run's part that the shadow bitmap has.

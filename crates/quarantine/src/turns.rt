@@ -6,7 +6,7 @@ ghost use Rattle.std.specs.Prelude.{◌≡◌, [], ◌∷◌, ◌++◌, Ok, Err}
 use crate::Quarantine;
 use crate::fault::QuarantineFault;
 use crate::run::Run;
-use crate::shade::unpainted;
+use crate::shade::{shade, unpainted};
 use crate::sweep::{HostCall, Sweep, Turn, reaches_end};
 
 impl Quarantine {
@@ -28,7 +28,7 @@ impl Quarantine {
         requires { self.old.sweep ≡ Idle }
         ensures { kept_of self.new ≡ with_opened (kept_of self.old) }
     {
-        self.shadow = self.shade_held();
+        self.shadow = shade(self.waiting());
         self.counts = self.counts.paint();
         self.sweep = Sweep::begun();
     }
