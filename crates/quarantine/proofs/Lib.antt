@@ -1,3 +1,2 @@
 pub mod Finds
-pub mod Parts
 pub mod Shadows
