@@ -1,7 +1,6 @@
 -- Passing granules one after another, and none past the last.
-use Rattle.std.proofs.Common.{◌≡◌, ℕ, zero, suc, ◌+◌, ◌-◌, ◌<◌, ◌≤◌, Bool, true, false, cond, List, length, set, sym, refl, ap, ◌∙◌, inl, inr, zero-add, suc-add, arith}
+use Rattle.std.proofs.Common.{◌≡◌, ℕ, zero, suc, ◌+◌, ◌-◌, ◌<◌, ◌≤◌, Bool, true, false, cond, List, length, set, sym, refl, ap, ◌∙◌, zero-add, suc-add, arith}
 use Rattle.std.proofs.lemmas.List.{get_or_past, length-set}
-use Rattle.std.proofs.lemmas.Bool.{cases_lt}
 use Rattle.quarantine.specs.declared.run.Run.{Run}
 use Rattle.sweep.specs.Sweeping.{is_stale, swept_tag, swept_tags}
 
@@ -34,18 +33,9 @@ swept_beyond rs bs p k (suc d) ts h =
     let size = length_swept rs bs p (d + k) ts in
     rw suc-add (swept_past rs bs (p + (d + k)) (swept_tags rs bs p (d + k) ts) (omega arith) ∙ swept_beyond rs bs p k d ts h)
 
--- two passes that both reach the last granule change the same
-pub swept_there : (rs : List Run) (bs : List ℕ) (p k n : ℕ) (ts : List Bool) → (n < k → length ts ≤ p + n) → (k < n → length ts ≤ p + k) → swept_tags rs bs p n ts ≡ swept_tags rs bs p k ts
-swept_there rs bs p k n ts short long = elim (cases_lt n k) [
-  | inl l ↦
-      let whole : (k - n) + n ≡ k = omega arith in
-      sym (swept_beyond rs bs p n (k - n) ts (short l)) ∙ ap (λ m. swept_tags rs bs p m ts) whole
-  | inr l ↦ elim (cases_lt k n) [
-    | inl m ↦
-        let whole : (n - k) + k ≡ n = omega arith in
-        ap (λ m. swept_tags rs bs p m ts) (sym whole) ∙ swept_beyond rs bs p k (n - k) ts (long m)
-    | inr m ↦
-        let same : n ≡ k = omega arith in
-        ap (λ m. swept_tags rs bs p m ts) same
-  ]
-]
+-- a pass that goes past the last granule changes what one up to it changes
+pub swept_there : (rs : List Run) (bs : List ℕ) (p k : ℕ) (ts : List Bool) → length ts < p + k → swept_tags rs bs p k ts ≡ swept_tags rs bs p (length ts - p) ts
+swept_there rs bs p k ts h =
+    let n = length ts - p in
+    let whole : (k - n) + n ≡ k = omega arith in
+    ap (λ m. swept_tags rs bs p m ts) (sym whole) ∙ swept_beyond rs bs p n (k - n) ts (omega arith)

@@ -43,6 +43,7 @@ pub fn pass_one<M: TaggedMemory>(memory: &mut M, quarantine: &Quarantine, g: usi
 }
 
 // Passes `count` granules from `from` on, one after another. Past the last granule nothing changes.
+#[tactic(auto, using(crate::proofs::Passes::swept_more, crate::proofs::Passes::swept_there))]
 pub fn pass<M: TaggedMemory>(memory: &mut M, quarantine: &Quarantine, from: usize, count: usize)
     ensures bytes { M.TaggedMemory.bytes memory.new ≡ M.TaggedMemory.bytes memory.old }
     ensures tags { M.TaggedMemory.tags memory.new ≡ swept_tags (painted_of quarantine.now) (M.TaggedMemory.bytes memory.old) from count (M.TaggedMemory.tags memory.old) }
