@@ -59,7 +59,7 @@ impl Quarantine {
         self.waiting().iter().any(|run| run.start == start)
     }
 
-    // Whether a granule lies in a painted run.
+    // Whether a granule lies in a painted run. The bitmap has the granules below 1,024.
     pub fn is_painted(&self, granule: usize) -> bool
         ensures { result ≡ in_runs (painted_of self.now) granule }
     {

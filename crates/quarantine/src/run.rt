@@ -27,7 +27,7 @@ impl Run {
 
     // The end of the run's part that the shadow bitmap has.
     pub(crate) fn end_below(self) -> usize
-        ensures { result ≡ min (self.start + self.length) 1024 }
+        ensures { result ≡ min (self.start + self.length) SHADOW_GRANULES }
     {
         self.start.saturating_add(self.length).min(SHADOW_GRANULES)
     }

@@ -3,12 +3,12 @@ ghost use Rattle.std.specs.Prelude.{◌≡◌, ◌+◌, min, true, [], length};
 ghost use Rattle.bits.specs.Bits.{bits_of, filled};
 ghost use Rattle.quarantine.specs.Runs.{shadow_of};
 
-use crate::run::{Run, SHADOW_BYTES};
+use crate::run::{Run, SHADOW_BYTES, SHADOW_GRANULES};
 use bits::fill;
 
 // Sets the bits of a run.
 fn paint(shadow: &mut [u8], run: Run)
-    ensures { bits_of shadow.new ≡ filled (bits_of shadow.old) run.start (min (run.start + run.length) 1024) true }
+    ensures { bits_of shadow.new ≡ filled (bits_of shadow.old) run.start (min (run.start + run.length) SHADOW_GRANULES) true }
 {
     fill(shadow, run.start, run.end_below(), true);
 }

@@ -3,6 +3,7 @@ ghost use Rattle.std.specs.Prelude.{◌≡◌, ◌+◌, nat_le};
 ghost use Rattle.quarantine.specs.declared.sweep.Sweep.TheVariants.{Open};
 
 // Idle, or open with the number of granules passed.
+// Kept as it is: an Option of the number would be no plainer, since it names neither state.
 #[derive(Clone, Copy, Debug, PartialEq, Eq)]
 pub enum Sweep {
     Idle,

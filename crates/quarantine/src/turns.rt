@@ -50,7 +50,7 @@ impl Quarantine {
     {
         let waiting = self.waiting().len();
         let painted = self.painted().len();
-        // Kept as it is: the project wants this an in-place match on the sweep's state and the call.
+        // Kept as it is: the project's rule is an in-place match on the sweep's state and the call.
         match (&mut self.sweep, call) {
             (Sweep::Open { .. }, HostCall::Open) => Err(QuarantineFault::Open),
             (Sweep::Idle, HostCall::Open) => {
