@@ -1,19 +1,14 @@
--- A loop that looks for an element that passes a test.
-use Rattle.std.proofs.Common.{◌≡◌, ℕ, ◌+◌, ◌<◌, ◌≤◌, Bool, true, false, ◌||◌, List, [], ◌∷◌, length, get_or, drop, sym, ap, ◌∙◌}
-use Rattle.std.proofs.lemmas.List.{at_drop_more, at_drop_all}
+-- Whether one of some runs passes a test, as std says it and as the definitions of runs say it.
+use Rattle.std.proofs.Common.{◌≡◌, ℕ, ◌||◌, eqb, List, refl}
+use Rattle.std.specs.List.{list_any}
+use Rattle.std.proofs.lemmas.List.Recursion.{same_from_clauses}
+use Rattle.quarantine.specs.Runs.{begins_at, in_run, in_runs}
+use Rattle.quarantine.specs.declared.run.Run.{Run}
 
--- f says whether an element passes p
-abbrev pub Either : {X : Type 0} → (X → Bool) → (List X → Bool) → Type 0
-Either {X = X} p f = (x : X) (xs : List X) → f (x ∷ xs) ≡ (p x || f xs)
+pub any_begins : (rs : List Run) (g : ℕ) → list_any (λ (r : Run). eqb r.start g) rs ≡ begins_at rs g
+any_begins rs g =
+    same_from_clauses (list_any (λ (r : Run). eqb r.start g)) (λ xs. begins_at xs g) (λ r t. eqb r.start g || t) refl (λ _ _. refl) (λ _ _. refl) rs
 
-here : {X : Type 0} (p : X → Bool) (f : List X → Bool) → Either p f → (xs : List X) (i : ℕ) (d : X) → i < length xs → f (drop i xs) ≡ (p (get_or xs i d) || f (drop (i + 1) xs))
-here p f is xs i d h = at_drop_more f xs i d h ∙ is (get_or xs i d) (drop (i + 1) xs)
-
-pub found : {X : Type 0} (p : X → Bool) (f : List X → Bool) → Either p f → (xs : List X) (i : ℕ) (d : X) → i < length xs → f (drop i xs) ≡ f xs → p (get_or xs i d) ≡ true → true ≡ f xs
-found p f is xs i d h left e = sym (sym left ∙ (here p f is xs i d h ∙ ap (λ t. t || f (drop (i + 1) xs)) e))
-
-pub found_not : {X : Type 0} (p : X → Bool) (f : List X → Bool) → Either p f → (xs : List X) (i : ℕ) (d : X) → i < length xs → f (drop i xs) ≡ f xs → p (get_or xs i d) ≡ false → f (drop (i + 1) xs) ≡ f xs
-found_not p f is xs i d h left e = sym (here p f is xs i d h ∙ ap (λ t. t || f (drop (i + 1) xs)) e) ∙ left
-
-pub found_none : {X : Type 0} (f : List X → Bool) → f [] ≡ false → (xs : List X) (i : ℕ) → length xs ≤ i → f (drop i xs) ≡ f xs → false ≡ f xs
-found_none f is xs i h left = sym (sym left ∙ (at_drop_all f xs i h ∙ is))
+pub any_holds : (rs : List Run) (g : ℕ) → list_any (λ (r : Run). in_run r g) rs ≡ in_runs rs g
+any_holds rs g =
+    same_from_clauses (list_any (λ (r : Run). in_run r g)) (λ xs. in_runs xs g) (λ r t. in_run r g || t) refl (λ _ _. refl) (λ _ _. refl) rs

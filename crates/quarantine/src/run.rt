@@ -1,9 +1,17 @@
 // Runs of granules.
-ghost use Rattle.std.specs.Prelude.{◌≡◌, ◌+◌, min, ◌==◌};
+ghost use Rattle.std.specs.Prelude.{◌≡◌, ◌+◌, min};
 ghost use Rattle.quarantine.specs.Runs.{in_run};
 
+// The most runs that the quarantine holds.
+pub(crate) const MOST_RUNS: usize = 64;
+
+// The granules that the shadow bitmap has, and its bytes.
+pub(crate) const SHADOW_GRANULES: usize = 1024;
+
+pub(crate) const SHADOW_BYTES: usize = SHADOW_GRANULES / 8;
+
 // A run of granules: its first granule and its number of granules.
-#[derive(Clone, Copy)]
+#[derive(Clone, Copy, Debug, PartialEq, Eq)]
 pub struct Run {
     pub start: usize,
     pub length: usize,
@@ -17,21 +25,10 @@ impl Run {
         self.start <= g && g - self.start < self.length
     }
 
-    // Whether the run begins at granule g.
-    pub(crate) fn begins(self, g: usize) -> bool
-        ensures { result ≡ (self.start == g) }
-    {
-        self.start == g
-    }
-
-    // The end of the run's part below granule 1,024.
+    // The end of the run's part that the shadow bitmap has.
     pub(crate) fn end_below(self) -> usize
-        ensures { result ≡ min (self.start + self.length) 1024 }
+        ensures { result ≡ min (self.start + self.length) SHADOW_GRANULES }
     {
-        if self.start >= 1024 || self.length >= 1024 - self.start {
-            1024
-        } else {
-            self.start + self.length
-        }
+        self.start.saturating_add(self.length).min(SHADOW_GRANULES)
     }
 }

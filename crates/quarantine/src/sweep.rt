@@ -3,13 +3,14 @@ ghost use Rattle.std.specs.Prelude.{◌≡◌, ◌+◌, nat_le};
 ghost use Rattle.quarantine.specs.declared.sweep.Sweep.TheVariants.{Open};
 
 // Idle, or open with the number of granules passed.
-#[derive(Clone, Copy)]
+// Kept as it is: an Option of the number would be no plainer, since it names neither state.
+#[derive(Clone, Copy, Debug, PartialEq, Eq)]
 pub enum Sweep {
     Idle,
     Open { passed: usize },
 }
 
-#[derive(Clone, Copy)]
+#[derive(Clone, Copy, Debug, PartialEq, Eq)]
 pub enum HostCall {
     Open,
     Step { granules: usize },
@@ -18,7 +19,7 @@ pub enum HostCall {
 
 // Opened and Shut give the number of painted runs, Passing and Ending the granule that the step begins at.
 // After Ending the caller passes the rest, wipes and releases the painted runs, and calls `finish`.
-#[derive(Clone, Copy)]
+#[derive(Clone, Copy, Debug, PartialEq, Eq)]
 pub enum Turn {
     Opened { runs: usize },
     Passing { from: usize, left: usize },

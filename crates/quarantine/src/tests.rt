@@ -1,24 +1,13 @@
 use crate::Quarantine;
+use crate::fault::QuarantineFault;
 use crate::run::Run;
 use crate::sweep::{HostCall, Turn};
-use std::test::Fail;
-
-// The number in what a call answers; none if it is denied.
-fn number(turn: Option<Turn>) -> Option<usize> {
-    match turn {
-        None => None,
-        Some(Turn::Opened { runs }) => Some(runs),
-        Some(Turn::Passing { left, .. }) => Some(left),
-        Some(Turn::Ending { from }) => Some(from),
-        Some(Turn::Shut { runs }) => Some(runs),
-    }
-}
 
 // A sweep from its opening to its end, with a run freed on the way.
 #[test]
 fn a_sweep_ends(rt: HostRuntime) {
     let mut q = Quarantine::new();
-    assert!(rt; q.turn(HostCall::Open, 16).is_err());
+    assert_eq!(rt; q.turn(HostCall::Open, 16), Err(QuarantineFault::Idle));
     assert!(rt;
         q.join(Run {
             start: 2,
@@ -33,7 +22,7 @@ fn a_sweep_ends(rt: HostRuntime) {
         })
         .is_err()
     );
-    assert_eq!(rt; number(q.turn(HostCall::Open, 16).ok()), Some(1));
+    assert_eq!(rt; q.turn(HostCall::Open, 16), Ok(Turn::Opened { runs: 1 }));
     assert!(rt;
         q.join(Run {
             start: 8,
@@ -44,12 +33,12 @@ fn a_sweep_ends(rt: HostRuntime) {
     assert!(rt; !q.is_painted(1) && q.is_painted(2) && q.is_painted(4));
     assert!(rt; !q.is_painted(5) && !q.is_painted(8));
     assert_eq!(rt;
-        number(q.turn(HostCall::Step { granules: 15 }, 16).ok()),
-        Some(1)
+        q.turn(HostCall::Step { granules: 15 }, 16),
+        Ok(Turn::Passing { from: 0, left: 1 })
     );
     assert_eq!(rt;
-        number(q.turn(HostCall::Step { granules: 1 }, 16).ok()),
-        Some(15)
+        q.turn(HostCall::Step { granules: 1 }, 16),
+        Ok(Turn::Ending { from: 15 })
     );
     q.finish();
     assert_eq!(rt; q.len(), 1);
@@ -58,7 +47,7 @@ fn a_sweep_ends(rt: HostRuntime) {
 
 // The painted runs of a sweep that is shut wait before those freed since.
 #[test]
-fn a_shut_sweep_keeps_its_runs(rt: HostRuntime) -> Result<(), Fail> {
+fn a_shut_sweep_keeps_its_runs(rt: HostRuntime) {
     let mut q = Quarantine::new();
     assert!(rt;
         q.join(Run {
@@ -75,14 +64,16 @@ fn a_shut_sweep_keeps_its_runs(rt: HostRuntime) -> Result<(), Fail> {
         })
         .is_ok()
     );
-    assert_eq!(rt; number(q.turn(HostCall::Shut, 16).ok()), Some(1));
-    assert!(rt; q.turn(HostCall::Shut, 16).is_err());
-    assert_eq!(rt; number(q.turn(HostCall::Open, 16).ok()), Some(2));
-    let Some(first) = q.painted_run(0) else {
-        assert!(rt; false);
-        return Ok(());
-    };
-    assert_eq!(rt; first.start, 4);
-    assert!(rt; q.painted_run(2).is_none());
-    Ok(())
+    assert_eq!(rt; q.turn(HostCall::Shut, 16), Ok(Turn::Shut { runs: 1 }));
+    assert_eq!(rt; q.turn(HostCall::Shut, 16), Err(QuarantineFault::NoSweep));
+    assert_eq!(rt; q.turn(HostCall::Open, 16), Ok(Turn::Opened { runs: 2 }));
+    assert_eq!(rt;
+        q.painted_run(0),
+        Some(Run {
+            start: 4,
+            length: 2
+        })
+    );
+    assert_eq!(rt; q.painted_run(2), None);
+    assert_eq!(rt; q.painted().len(), 2);
 }

@@ -5,9 +5,8 @@ ghost use Rattle.std.specs.Prelude.{◌≡◌, [], ◌∷◌, ◌++◌, Ok, Err}
 
 use crate::Quarantine;
 use crate::fault::QuarantineFault;
-use crate::lists::move_to_front;
 use crate::run::Run;
-use crate::shade::unpainted;
+use crate::shade::{shade, unpainted};
 use crate::sweep::{HostCall, Sweep, Turn, reaches_end};
 
 impl Quarantine {
@@ -29,7 +28,7 @@ impl Quarantine {
         requires { self.old.sweep ≡ Idle }
         ensures { kept_of self.new ≡ with_opened (kept_of self.old) }
     {
-        self.shadow = self.shade_held();
+        self.shadow = shade(self.waiting());
         self.counts = self.counts.paint();
         self.sweep = Sweep::begun();
     }
@@ -49,8 +48,9 @@ impl Quarantine {
         ensures kept { kept_of self.new ≡ after_turn call granules (kept_of self.old) }
         ensures denied { elim result [ Ok _ ↦ Unit {0} | Err _ ↦ self.new ≡ self.old ] }
     {
-        let waiting = self.waiting_count();
-        let painted = self.painted_count();
+        let waiting = self.waiting().len();
+        let painted = self.painted().len();
+        // Kept as it is: the project's rule is an in-place match on the sweep's state and the call.
         match (&mut self.sweep, call) {
             (Sweep::Open { .. }, HostCall::Open) => Err(QuarantineFault::Open),
             (Sweep::Idle, HostCall::Open) => {
@@ -86,7 +86,7 @@ impl Quarantine {
     {
         let counts = self.counts;
         self.shadow = unpainted();
-        move_to_front(&mut self.runs, counts.painted, counts.held);
+        self.runs.copy_within(counts.painted..counts.held, 0);
         self.counts = counts.finish();
         self.sweep = Sweep::Idle;
     }

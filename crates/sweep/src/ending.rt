@@ -21,11 +21,8 @@ pub fn wipe_painted<M: TaggedMemory>(memory: &mut M, quarantine: &Quarantine)
     ensures bytes { M.TaggedMemory.bytes memory.new ≡ wiped_bytes (length (M.TaggedMemory.tags memory.old)) (painted_of quarantine.now) (M.TaggedMemory.bytes memory.old) }
     ensures tags { M.TaggedMemory.tags memory.new ≡ wiped_tags (painted_of quarantine.now) (M.TaggedMemory.tags memory.old) }
 {
-    for i in 0..quarantine.len() {
-        let Some(run) = quarantine.painted_run(i) else {
-            return;
-        };
-        wipe_run(memory, run);
+    for run in quarantine.painted() {
+        wipe_run(memory, *run);
     }
 }
 
@@ -46,10 +43,7 @@ pub fn release_painted<B: Allocator>(allocator: &mut B, quarantine: &Quarantine)
     ensures most { B.Allocator.most allocator.new ≡ B.Allocator.most allocator.old }
     ensures size { length (B.Allocator.cells allocator.new) ≡ length (B.Allocator.cells allocator.old) }
 {
-    for i in 0..quarantine.len() {
-        let Some(run) = quarantine.painted_run(i) else {
-            return;
-        };
-        release_run(allocator, run);
+    for run in quarantine.painted() {
+        release_run(allocator, *run);
     }
 }

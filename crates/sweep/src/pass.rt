@@ -1,5 +1,5 @@
 // Passing granules: capabilities whose base is painted lose their tags.
-ghost use Rattle.std.specs.Prelude.{◌≡◌, ◌-◌, ◌/◌, min, false, ◌&&◌, slice_index_or};
+ghost use Rattle.std.specs.Prelude.{◌≡◌, ◌/◌, false, ◌&&◌, slice_index_or};
 ghost use Rattle.quarantine.specs.Kept.{painted_of};
 ghost use Rattle.quarantine.specs.Runs.{in_runs};
 ghost use Rattle.sweep.specs.Sweeping.{is_stale, swept_tag, swept_tags};
@@ -8,25 +8,11 @@ use memory::granule::Granule;
 use memory::tagged_memory::TaggedMemory;
 use quarantine::Quarantine;
 
-// How many of `count` granules from `from` on there are in a memory of `all`.
-fn there(all: usize, from: usize, count: usize) -> usize
-    ensures { result ≡ min count (all - from) }
-{
-    if from >= all {
-        0
-    } else {
-        count.min(all - from)
-    }
-}
-
 // Whether granule g has to be looked at. The memory says no only at an untagged granule.
 fn must_look<M: TaggedMemory>(memory: &M, g: usize) -> bool
     ensures { result ≡ false → slice_index_or (M.TaggedMemory.tags memory.now) g false ≡ false }
 {
-    match memory.may_hold(g) {
-        Ok(may) => may,
-        Err(_) => false,
-    }
+    memory.may_hold(g).unwrap_or(false)
 }
 
 // Whether a granule holds a capability whose base is painted.
@@ -40,13 +26,10 @@ fn is_revoked(quarantine: &Quarantine, granule: Granule) -> bool
 fn is_stale<M: TaggedMemory>(memory: &M, quarantine: &Quarantine, g: usize) -> bool
     ensures { result ≡ is_stale (painted_of quarantine.now) (M.TaggedMemory.bytes memory.now) g (M.TaggedMemory.tags memory.now) }
 {
-    if !must_look(memory, g) {
-        return false;
-    }
-    match memory.read_granule(g) {
-        Ok(granule) => is_revoked(quarantine, granule),
-        Err(_) => false,
-    }
+    must_look(memory, g)
+        && memory
+            .read_granule(g)
+            .is_ok_and(|granule| is_revoked(quarantine, granule))
 }
 
 // Passes granule g.
@@ -60,12 +43,13 @@ pub fn pass_one<M: TaggedMemory>(memory: &mut M, quarantine: &Quarantine, g: usi
 }
 
 // Passes `count` granules from `from` on, one after another. Past the last granule nothing changes.
+#[tactic(auto, using(crate::proofs::Passes::swept_more, crate::proofs::Passes::swept_there))]
 pub fn pass<M: TaggedMemory>(memory: &mut M, quarantine: &Quarantine, from: usize, count: usize)
     ensures bytes { M.TaggedMemory.bytes memory.new ≡ M.TaggedMemory.bytes memory.old }
     ensures tags { M.TaggedMemory.tags memory.new ≡ swept_tags (painted_of quarantine.now) (M.TaggedMemory.bytes memory.old) from count (M.TaggedMemory.tags memory.old) }
 {
-    let left = there(memory.granules(), from, count);
-    for i in 0..left {
-        pass_one(memory, quarantine, from + i);
+    let end = from.saturating_add(count).min(memory.granules());
+    for g in from..end {
+        pass_one(memory, quarantine, g);
     }
 }
