@@ -1,4 +1,4 @@
-mod Scans
+
 mod Numbers
 mod Spelling
 mod Short

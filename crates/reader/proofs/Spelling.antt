@@ -3,7 +3,7 @@ use Rattle.std.proofs.Common.{◌≡◌, ℕ, zero, suc, ◌+◌, ◌<◌, ◌�
 use Rattle.std.proofs.lemmas.List.{at_drop_more, at_drop_all, append-nil, append_assoc}
 use Rattle.std.proofs.lemmas.Bool.{cond-true, cond-false, ltb-true, cases_Bool, cases_eq, and_parts, eqb-true, ne_eqb, not-true}
 use Rattle.std.proofs.lemmas.Bool.Decides.{nat_tests}
-use Rattle.reader.specs.Steps.{letter_bit, with_letter}
+use Rattle.reader.specs.Steps.{letter_bit, with_bit, with_letter}
 use Rattle.reader.specs.Texts.{ReadsAs, letters_of, letters_from}
 
 -- the loop: each byte as a letter more, while that goes
@@ -61,39 +61,47 @@ spelled_letters p h = some_true (suc p) (spelled (Some 0) (letters_of (suc p))) 
 abbrev lengthens : ℕ → ℕ → ℕ → Bool
 lengthens c b s = same_list (letters_from (codes "rwcgo") (s + b)) (letters_from (codes "rwcgo") s ++ (c ∷ []))
 
-letter_cases : (c : ℕ) → (letter_bit c ≡ 0) ⊎ (((c ≡ 114) × (letter_bit c ≡ 1)) ⊎ (((c ≡ 119) × (letter_bit c ≡ 2)) ⊎ (((c ≡ 99) × (letter_bit c ≡ 4)) ⊎ (((c ≡ 103) × (letter_bit c ≡ 8)) ⊎ ((c ≡ 111) × (letter_bit c ≡ 16))))))
-letter_cases c = grind (arith, nat_tests)
+some_inj : (a b : ℕ) → Some a ≡ Some b → a ≡ b
+some_inj a b e = cc
 
-one_more : (c s : ℕ) → s < letter_bit c → letters_from (codes "rwcgo") (s + letter_bit c) ≡ letters_from (codes "rwcgo") s ++ (c ∷ [])
-one_more c s h = same_true _ _ (
-    elim (letter_cases c) [
-      | inl z ↦ absurd (omega arith)
-      | inr (inl p) ↦ rw p.0 (below_at (lengthens 114 1) 1 s refl (omega arith))
-      | inr (inr (inl p)) ↦ rw p.0 (below_at (lengthens 119 2) 2 s refl (omega arith))
-      | inr (inr (inr (inl p))) ↦ rw p.0 (below_at (lengthens 99 4) 4 s refl (omega arith))
-      | inr (inr (inr (inr (inl p)))) ↦ rw p.0 (below_at (lengthens 103 8) 8 s refl (omega arith))
-      | inr (inr (inr (inr (inr p)))) ↦ rw p.0 (below_at (lengthens 111 16) 16 s refl (omega arith))
+letter_cases : (c b : ℕ) → letter_bit c ≡ Some b → ((c ≡ 114) × (b ≡ 1)) ⊎ (((c ≡ 119) × (b ≡ 2)) ⊎ (((c ≡ 99) × (b ≡ 4)) ⊎ (((c ≡ 103) × (b ≡ 8)) ⊎ ((c ≡ 111) × (b ≡ 16)))))
+letter_cases c b e = grind (arith, nat_tests)
+
+one_more : (c b s : ℕ) → letter_bit c ≡ Some b → s < b → letters_from (codes "rwcgo") (s + b) ≡ letters_from (codes "rwcgo") s ++ (c ∷ [])
+one_more c b s e h = same_true _ _ (
+    elim (letter_cases c b e) [
+      | inl p ↦ rw (p.0, p.1) (below_at (lengthens 114 1) 1 s refl (omega arith))
+      | inr (inl p) ↦ rw (p.0, p.1) (below_at (lengthens 119 2) 2 s refl (omega arith))
+      | inr (inr (inl p)) ↦ rw (p.0, p.1) (below_at (lengthens 99 4) 4 s refl (omega arith))
+      | inr (inr (inr (inl p))) ↦ rw (p.0, p.1) (below_at (lengthens 103 8) 8 s refl (omega arith))
+      | inr (inr (inr (inr p))) ↦ rw (p.0, p.1) (below_at (lengthens 111 16) 16 s refl (omega arith))
     ])
 
 -- what a letter more tells
 pub record LetterMore (s c m : ℕ) : Type 0 where
-  pub above : s < letter_bit c
-  pub value : s + letter_bit c ≡ m
+  pub bit : ℕ
+  pub is : letter_bit c ≡ Some bit
+  pub above : s < bit
+  pub value : s + bit ≡ m
   pub small : m ≤ 31
 
-letter_is : (s c m : ℕ) → with_letter s c ≡ Some m → LetterMore s c m
-letter_is s c m e =
-    elim (cases_Bool (ltb s (letter_bit c))) [
+bit_is : (s c m : ℕ) (o : Option ℕ) → letter_bit c ≡ o → with_bit s o ≡ Some m → LetterMore s c m
+bit_is s c m None w e = absurd (let z : ◌≡◌ {A = ℕ} 0 1 = cc in omega arith)
+bit_is s c m (Some b) w e =
+    elim (cases_Bool (ltb s b)) [
       | inr x ↦ absurd (let z : ◌≡◌ {A = ℕ} 0 1 = cc (sym e ∙ cond-false _ _ _ x) in omega arith)
       | inl x ↦
-          let v : s + letter_bit c ≡ m = cc (sym e ∙ cond-true _ _ _ x) in
-          let l = ltb-true s (letter_bit c) x in
-          let b : letter_bit c ≤ 16 = most c in
-          record { above = l; value = v; small = omega arith }
+          let v : s + b ≡ m = cc (sym e ∙ cond-true _ _ _ x) in
+          let l = ltb-true s b x in
+          let k : b ≤ 16 = most (letter_cases c b w) in
+          record { bit = b; is = w; above = l; value = v; small = omega arith }
     ]
   where
-    most : (c : ℕ) → letter_bit c ≤ 16
-    most c = grind (arith, nat_tests)
+    most : ((c ≡ 114) × (b ≡ 1)) ⊎ (((c ≡ 119) × (b ≡ 2)) ⊎ (((c ≡ 99) × (b ≡ 4)) ⊎ (((c ≡ 103) × (b ≡ 8)) ⊎ ((c ≡ 111) × (b ≡ 16))))) → b ≤ 16
+    most h = grind arith
+
+letter_is : (s c m : ℕ) → with_letter s c ≡ Some m → LetterMore s c m
+letter_is s c m e = bit_is s c m (letter_bit c) refl e
 
 spelled_is : (s : ℕ) (bs : List ℕ) (q : ℕ) → s ≤ 31 → spelled (Some s) bs ≡ Some q → (q ≤ 31) × (letters_from (codes "rwcgo") q ≡ letters_from (codes "rwcgo") s ++ bs)
 spelled_is s [] q h e =
@@ -106,7 +114,7 @@ spelled_is s (c ∷ cs) q h e = go (λ m k f. spelled_is m cs q k f) (with_lette
     go more (Some m) w f =
         let d = letter_is s c m w in
         let r = more m d.small f in
-        let l : letters_from (codes "rwcgo") m ≡ letters_from (codes "rwcgo") s ++ (c ∷ []) = ap (letters_from (codes "rwcgo")) (sym d.value) ∙ one_more c s d.above in
+        let l : letters_from (codes "rwcgo") m ≡ letters_from (codes "rwcgo") s ++ (c ∷ []) = ap (letters_from (codes "rwcgo")) (sym d.value) ∙ one_more c d.bit s d.is d.above in
         (r.0, r.1 ∙ (ap (λ xs. xs ++ cs) l ∙ append_assoc (letters_from (codes "rwcgo") s) (c ∷ []) cs))
 
 -- the loop's steps

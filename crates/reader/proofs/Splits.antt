@@ -1,33 +1,70 @@
 -- The words of a line.
-use Rattle.std.proofs.Common.{◌≡◌, ℕ, suc, ◌+◌, ◌-◌, ◌<◌, ◌≤◌, Bool, true, false, cond, not, ◌&&◌, eqb, leb, List, [], ◌∷◌, ◌++◌, length, take, drop, sym, refl, ap, ◌∙◌, inl, inr, arith}
+use Rattle.std.proofs.Common.{◌≡◌, ℕ, suc, ◌+◌, ◌-◌, ◌<◌, ◌≤◌, Bool, true, false, cond, not, ◌&&◌, eqb, leb, List, [], ◌∷◌, ◌++◌, length, take, drop, Some, None, Option, sym, refl, ap, ◌∙◌, inl, inr, arith}
 use Rattle.std.proofs.lemmas.List.{length-drop, drop-drop, take_rest, length-take-le}
+use Rattle.std.specs.List as L
+use Rattle.std.specs.List.{slice_split, IsFirstMatchOrLen, All}
+use Rattle.std.specs.declared.slice.Split.{Split}
+use Rattle.std.specs.Slice.Iter.{split_rest, split_done, split_steps}
+use Rattle.std.specs.Bool.{MatchBool}
+use Rattle.std.specs.Fn.{ComputesKey, CalledAt}
+use Rattle.std.proofs.lemmas.Fn.{always_returns_same}
+use Rattle.std.specs.Option.{is_some}
+use denote.Ref.{Bor}
+use denote.Param.Members.{Mut}
+use Rattle.std.proofs.lemmas.List.Splits.{slice_split_none, slice_split_at}
+use Rattle.std.proofs.lemmas.Grind.{common_steps}
 use Rattle.std.proofs.lemmas.Bool.{cond-true, cond-false, cases_Bool, and_parts, eqb-true, not-true}
 use Rattle.std.proofs.lemmas.Bool.Decides.{nat_tests}
 use Rattle.reader.specs.Calls.{with_spaces}
 use Rattle.reader.specs.Lines.{split, onto_first}
-use Rattle.reader.specs.Steps.{length_before, words_from, WordAt}
 
-split_cut : (xs : List ℕ) → split xs ≡ take (length_before 32 xs) xs ∷ words_from xs (suc (length_before 32 xs))
-split_cut [] = refl
-split_cut (c ∷ cs) = go (eqb c 32) refl (split_cut cs)
+pub onto_same : (c : ℕ) (ws : List (List ℕ)) → L.onto_first c ws ≡ onto_first c ws
+onto_same c [] = refl
+onto_same c (w ∷ ws) = refl
+
+-- the parts between spaces, as std cuts them
+pub split_parts : (xs : List ℕ) → slice_split (λ b. eqb b 32) xs ≡ split xs
+split_parts [] = refl
+split_parts (c ∷ cs) = go (eqb c 32) refl (split_parts cs)
   where
-    go : (b : Bool) → eqb c 32 ≡ b → split cs ≡ take (length_before 32 cs) cs ∷ words_from cs (suc (length_before 32 cs)) → split (c ∷ cs) ≡ take (length_before 32 (c ∷ cs)) (c ∷ cs) ∷ words_from (c ∷ cs) (suc (length_before 32 (c ∷ cs)))
-    go true e h =
-        let k : leb 1 (suc (length cs)) ≡ true = grind (arith, nat_tests) in
-        rw (e, k) refl
-    go false e h =
-        let k : leb (suc (length_before 32 cs)) (length cs) ≡ leb (suc (suc (length_before 32 cs))) (suc (length cs)) = grind (arith, nat_tests) in
-        rw (e, h) (ap (λ b. (c ∷ take (length_before 32 cs) cs) ∷ cond b (split (drop (suc (length_before 32 cs)) cs)) []) k)
+    go : (b : Bool) → eqb c 32 ≡ b → slice_split (λ b. eqb b 32) cs ≡ split cs → slice_split (λ b. eqb b 32) (c ∷ cs) ≡ split (c ∷ cs)
+    go true e h = rw (e, h) refl
+    go false e h = rw (e, h) (onto_same c (split cs))
 
-pub from_step : (xs : List ℕ) (at n : ℕ) → at ≤ length xs → n ≡ length_before 32 (drop at xs) → words_from xs at ≡ take n (drop at xs) ∷ words_from xs (at + (n + 1))
-from_step xs at n h e =
-    let t : leb at (length xs) ≡ true = grind (arith, nat_tests) in
-    let l = length-drop at xs in
-    let s : suc n ≡ n + 1 = omega arith in
-    let k : leb (suc n) (length (drop at xs)) ≡ leb (at + (n + 1)) (length xs) = grind (arith, nat_tests) in
-    let d : drop (suc n) (drop at xs) ≡ drop (at + (n + 1)) xs = ap (λ m. drop m (drop at xs)) s ∙ drop-drop (n + 1) at xs in
-    let w : words_from (drop at xs) (suc n) ≡ words_from xs (at + (n + 1)) = λ i. cond (k i) (split (d i)) [] in
-    cond-true _ _ _ t ∙ (split_cut (drop at xs) ∙ (ap (λ m. take m (drop at xs) ∷ words_from (drop at xs) (suc m)) (sym e) ∙ ap (λ ws. take n (drop at xs) ∷ ws) w))
+-- the words that an iterator over a line has left
+abbrev pub words_left : Split ℕ (Unit {0}) → List (List ℕ)
+words_left s = cond (split_done s) [] (split (split_rest s))
+
+first_part : (xs x rest : List ℕ) (done : Bool) → MatchBool done (xs ≡ x) ((y : ℕ) × (xs ≡ x ++ (y ∷ rest))) → IsFirstMatchOrLen (λ b. eqb b 32) xs (length x)
+    → slice_split (λ b. eqb b 32) xs ≡ x ∷ cond done [] (slice_split (λ b. eqb b 32) rest)
+first_part xs x rest true e h =
+    let front : All (λ z. eqb z 32 ≡ false) x = λ k d l. let a = h.0 k d (omega arith) l in grind (arith, common_steps) in
+    ap (slice_split (λ b. eqb b 32)) e ∙ slice_split_none (λ b. eqb b 32) x front
+first_part xs x rest false e h =
+    let front : All (λ z. eqb z 32 ≡ false) x = λ k d l. let a = h.0 k d (omega arith) l in let b = e.1 in grind (arith, common_steps) in
+    let hit : eqb e.0 32 ≡ true = let b = e.1 in let a = h.1 (grind (arith, common_steps)) e.0 in grind (arith, common_steps) in
+    ap (slice_split (λ b. eqb b 32)) e.1 ∙ slice_split_at (λ b. eqb b 32) x e.0 rest front hit
+
+pub word_taken : (g : Mut (Unit {0}) (Bor ℕ × Unit {0}) Bool) (s t : Split ℕ (Unit {0})) (r : Option (Bor (List ℕ))) (x : Bor (List ℕ)) → ((y : ℕ) (b : Bool) (q : Unit {0}) → CalledAt g tt y b q → (q ≡ tt) × (b ≡ eqb y 32)) → split_steps g s r t → r ≡ Some x → words_left s ≡ x.now ∷ words_left t
+word_taken g s t (Some y) x k h e =
+    let l : words_left s ≡ split (split_rest s) = ap (λ b. cond b [] (split (split_rest s))) h.0 in
+    let key : ComputesKey g (λ b. eqb b 32) tt = always_returns_same g (λ a b. b ≡ eqb a.0.now 32) tt (λ a b q m. let n = k a.0.now b q (record { shown = a.0; shows = refl; called = m }) in (n.1, n.0)) in
+    let p = first_part (split_rest s) y.now (split_rest t) (split_done t) h.1 (h.2 (λ b. eqb b 32) key).1 in
+    let y_is : y.now ≡ x.now = cc in
+    l ∙ (sym (split_parts (split_rest s)) ∙ (p ∙ ((λ i. y_is i ∷ cond (split_done t) [] (split_parts (split_rest t) i)))))
+word_taken g s t None x k h e = absurd (let z : ◌≡◌ {A = ℕ} 0 1 = cc in omega arith)
+
+pub no_words : (g : Mut (Unit {0}) (Bor ℕ × Unit {0}) Bool) (s t : Split ℕ (Unit {0})) (r : Option (Bor (List ℕ))) → split_steps g s r t → r ≡ None → words_left s ≡ []
+no_words g s t None h e = ap (λ b. cond b [] (split (split_rest s))) h.0
+no_words g s t (Some y) h e = absurd (let z : ◌≡◌ {A = ℕ} 0 1 = cc in omega arith)
+
+-- a word more
+pub one_word : (s t : Split ℕ (Unit {0})) (g : Mut (Unit {0}) (Bor ℕ × Unit {0}) Bool) (r : Option (Bor (List ℕ))) → ((y : ℕ) (b : Bool) (q : Unit {0}) → CalledAt g tt y b q → (q ≡ tt) × (b ≡ eqb y 32)) → split_steps g s r t → true ≡ is_some r → (w : List ℕ) × (words_left s ≡ w ∷ words_left t)
+one_word s t g (Some x) k h e = (x.now, word_taken g s t (Some x) x k h refl)
+one_word s t g None k h e = absurd (let z : ◌≡◌ {A = ℕ} 0 1 = cc in omega arith)
+
+pub all_words : (s : Split ℕ (Unit {0})) (line : List ℕ) → split_rest s ≡ line → split_done s ≡ false → words_left s ≡ split line
+all_words s line r d = λ i. cond (d i) [] (split (r i))
 
 -- a line is its words with spaces between
 pub record Apart (xs : List ℕ) : Type 0 where
@@ -81,26 +118,3 @@ pub split_spaces : (w : List ℕ) (ws : List (List ℕ)) → clean w ≡ true �
 split_spaces w [] e es = split_clean w e
 split_spaces w (v ∷ ws) e es = split_space w (with_spaces v ws) e ∙ ap (λ vs. w ∷ vs) (split_spaces v ws es.0 es.1)
 
-pub from_past : (xs : List ℕ) (at : ℕ) → length xs < at → words_from xs at ≡ []
-from_past xs at h = let t : leb at (length xs) ≡ false = grind (arith, nat_tests) in cond-false _ _ _ t
-
--- as the checker reads `&line[at..]` and `&line[at..at + n]`
-pub from_cut : (xs : List ℕ) (at n : ℕ) → at ≤ length xs → n ≡ length_before 32 (take (length xs - at) (drop at xs)) → words_from xs at ≡ take ((at + n) - at) (drop at xs) ∷ words_from xs (at + (n + 1))
-from_cut xs at n h e =
-    let s : n ≡ (at + n) - at = omega arith in
-    from_step xs at n h (e ∙ ap (length_before 32) (take_rest xs at)) ∙ ap (λ m. take m (drop at xs) ∷ words_from xs (at + (n + 1))) s
-
-pub cut : (xs : List ℕ) (at n : ℕ) → at ≤ length xs → n ≡ length_before 32 (take (length xs - at) (drop at xs)) → n ≤ length (take (length xs - at) (drop at xs)) → WordAt xs at (take ((at + n) - at) (drop at xs))
-cut xs at n h e l =
-    let d = length-drop at xs in
-    let r : length (take (length xs - at) (drop at xs)) ≡ length (drop at xs) = ap length (take_rest xs at) in
-    let s : (at + n) - at ≡ n = omega arith in
-    let m : length (take ((at + n) - at) (drop at xs)) ≡ n = ap (λ k. length (take k (drop at xs))) s ∙ length-take-le n (drop at xs) (omega arith) in
-    record { words = from_cut xs at n h e ∙ ap (λ k. take ((at + n) - at) (drop at xs) ∷ words_from xs (at + (k + 1))) (sym m); within = omega arith }
-
--- at the start of a line
-pub first_cut : (xs w : List ℕ) (n : ℕ) → WordAt xs 0 w → n ≡ length w → split xs ≡ w ∷ words_from xs (n + 1)
-first_cut xs w n k e =
-    let t : leb 0 (length xs) ≡ true = grind (arith, nat_tests) in
-    let s : 0 + (length w + 1) ≡ n + 1 = omega arith in
-    sym (cond-true _ _ _ t) ∙ (k.words ∙ ap (λ m. w ∷ words_from xs m) s)

@@ -1,24 +1,23 @@
-ghost use Rattle.std.specs.Prelude.{◌≡◌, ◌+◌, ◌<◌, ◌≤◌, length, OnOk, nat_lt};
+ghost use Rattle.std.specs.Prelude.{◌≡◌, OnOk};
 ghost use Rattle.reader.specs.Lines.{Reads};
 ghost use Rattle.reader.specs.Scripts.{ReadsScript};
-ghost use Rattle.reader.specs.Steps.{LineAt, LinePushed};
+ghost use Rattle.reader.specs.Steps.{LinePushed};
 ghost use Rattle.reader.specs.declared.script.ReadError.TheVariants.{Memory as MemoryError};
 
 use crate::line::read_line;
 use crate::place::Place;
-use crate::scan::bytes_before;
 use call::Call;
 use std::alloc::{AllocError, Global};
 
 // What a line that is not empty reads as, with its number.
-#[derive(Clone, Copy)]
+#[derive(Clone, Copy, Debug, PartialEq, Eq)]
 pub struct Entry {
     pub line: usize,
     pub reading: Result<Call, Place>,
 }
 
 // Why a script is not read.
-#[derive(Clone, Copy)]
+#[derive(Clone, Copy, Debug, PartialEq, Eq)]
 pub enum ReadError {
     TooLong,
     Memory(AllocError),
@@ -30,52 +29,6 @@ impl From<AllocError> for ReadError {
     fn from(error: AllocError) -> ReadError {
         ReadError::Memory(error)
     }
-}
-
-// Where a line begins in the script, and its number.
-#[derive(Clone, Copy)]
-struct Start {
-    at: usize,
-    line: usize,
-}
-
-impl Start {
-    // The first line's start.
-    fn first() -> Start
-        ensures at { result.at ≡ 0 }
-        ensures line { result.line ≡ 1 }
-    {
-        Start { at: 0, line: 1 }
-    }
-
-    // The next line's start, behind the byte that ends a line of this length. An empty line counts.
-    fn next(self, length: usize) -> Start
-        requires at { self.at + length ≤ 32768 }
-        requires line { self.line ≤ 32768 }
-        ensures at { result.at ≡ self.at + (length + 1) }
-        ensures line { result.line ≡ self.line + 1 }
-    {
-        Start {
-            at: self.at + length + 1,
-            line: self.line + 1,
-        }
-    }
-}
-
-// Whether a script of this many bytes is too long.
-fn too_long(bytes: usize) -> bool
-    ensures { result ≡ nat_lt 32768 bytes }
-{
-    bytes > 32768
-}
-
-// The line that begins at a byte of a script: up to the next byte 10 or the end.
-fn line_at(script: &[u8], at: usize) -> &[u8]
-    requires { at < length script.now }
-    ensures { LineAt script.now at result.now }
-{
-    let length = bytes_before(&script[at..], b'\n');
-    &script[at..at + length]
 }
 
 // The entry of a line.
@@ -104,15 +57,12 @@ fn push_line(entries: &mut Vec<Entry>, line: &[u8], number: usize) -> Result<(),
 pub fn read_script(heap: Global, script: &[u8]) -> Result<Vec<Entry>, ReadError>
     ensures { ReadsScript script.now result }
 {
-    if too_long(script.len()) {
+    if script.len() > 32768 {
         return Err(ReadError::TooLong);
     }
     let mut entries = Vec::new(heap);
-    let mut start = Start::first();
-    while start.at < script.len() {
-        let line = line_at(script, start.at);
-        push_line(&mut entries, line, start.line)?;
-        start = start.next(line.len());
+    for (i, line) in script.split(|byte| *byte == b'\n').enumerate() {
+        push_line(&mut entries, line, i + 1)?;
     }
     Ok(entries)
 }

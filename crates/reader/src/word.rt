@@ -7,7 +7,7 @@ use crate::place::Place;
 use crate::verb::{Kind, Verb, named_verb};
 
 // A word by what is expected at its place: a part of the script, with its place.
-#[derive(Clone, Copy)]
+#[derive(Clone, Copy, Debug, PartialEq, Eq)]
 pub enum Word<'a> {
     Verb { text: &'a [u8], place: Place },
     Number { text: &'a [u8], place: Place },
