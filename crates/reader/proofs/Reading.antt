@@ -29,6 +29,7 @@ line_parts (c ∷ cs) = go (eqb c 10) refl (line_parts cs)
     longer : (ls : List (List ℕ)) → (L.onto_first c (ls ++ ([] ∷ [])) ≡ onto_first c ls) ⊎ (L.onto_first c (ls ++ ([] ∷ [])) ≡ onto_first c ls ++ ([] ∷ []))
     longer [] = inl refl
     longer (l ∷ ls) = inr refl
+
     go : (b : Bool) → eqb c 10 ≡ b → (slice_split (λ b. eqb b 10) cs ≡ lines_of cs) ⊎ (slice_split (λ b. eqb b 10) cs ≡ lines_of cs ++ ([] ∷ [])) → (slice_split (λ b. eqb b 10) (c ∷ cs) ≡ lines_of (c ∷ cs)) ⊎ (slice_split (λ b. eqb b 10) (c ∷ cs) ≡ lines_of (c ∷ cs) ++ ([] ∷ []))
     go true e (inl h) = inl (rw (e, h) refl)
     go true e (inr h) = inr (rw (e, h) refl)

@@ -59,7 +59,7 @@ no_words g s t None h e = ap (λ b. cond b [] (split (split_rest s))) h.0
 no_words g s t (Some y) h e = absurd (let z : ◌≡◌ {A = ℕ} 0 1 = cc in omega arith)
 
 -- a word more
-pub one_word : (s t : Split ℕ (Unit {0})) (g : Mut (Unit {0}) (Bor ℕ × Unit {0}) Bool) (r : Option (Bor (List ℕ))) → ((y : ℕ) (b : Bool) (q : Unit {0}) → CalledAt g tt y b q → (q ≡ tt) × (b ≡ eqb y 32)) → split_steps g s r t → true ≡ is_some r → (w : List ℕ) × (words_left s ≡ w ∷ words_left t)
+pub one_word : (s t : Split ℕ (Unit {0})) (g : Mut (Unit {0}) (Bor ℕ × Unit {0}) Bool) (r : Option (Bor (List ℕ))) → ((y : ℕ) (b : Bool) (q : Unit {0}) → CalledAt g tt y b q → (q ≡ tt) × (b ≡ eqb y 32)) → split_steps g s r t → is_some r ≡ true → (w : List ℕ) × (words_left s ≡ w ∷ words_left t)
 one_word s t g (Some x) k h e = (x.now, word_taken g s t (Some x) x k h refl)
 one_word s t g None k h e = absurd (let z : ◌≡◌ {A = ℕ} 0 1 = cc in omega arith)
 
@@ -117,4 +117,3 @@ split_space (c ∷ cs) xs e =
 pub split_spaces : (w : List ℕ) (ws : List (List ℕ)) → clean w ≡ true → Cleans ws → split (with_spaces w ws) ≡ w ∷ ws
 split_spaces w [] e es = split_clean w e
 split_spaces w (v ∷ ws) e es = split_space w (with_spaces v ws) e ∙ ap (λ vs. w ∷ vs) (split_spaces v ws es.0 es.1)
-

@@ -1,8 +1,20 @@
+ghost use Rattle.std.specs.Prelude.{◌≡◌, true, None, is_some, IfErr, OnOk};
 ghost use Rattle.reader.specs.Lines.{Reads, ReadsOnce};
 
 use crate::place::Place;
 use crate::word::Word;
 use call::Call;
+
+// Nothing where a line has no word more, or the place of a word that is too many.
+fn end(word: Option<&[u8]>, place: Place) -> Result<(), Place>
+    ensures ok { OnOk result (word.entry ≡ None) }
+    ensures err { IfErr result (λ at. (at ≡ place) × (is_some word.entry ≡ true)) }
+{
+    match word {
+        None => Ok(()),
+        Some(_) => Err(place),
+    }
+}
 
 // The call whose text a line is, or the place of the first word that is wrong, missing or too many.
 pub fn read_line(line: &[u8], number: usize) -> Result<Call, Place>
@@ -20,9 +32,7 @@ pub fn read_line(line: &[u8], number: usize) -> Result<Call, Place>
         let text = words.next().ok_or(place)?;
         operands[i] = Word::operand(*kind, text, place).value()?;
     }
-    if words.next().is_some() {
-        return Err(Place::of_operand(number, kinds.len()));
-    }
+    end(words.next(), Place::of_operand(number, kinds.len()))?;
     Ok(verb.call(&operands))
 }
 
@@ -30,29 +40,26 @@ pub fn read_line(line: &[u8], number: usize) -> Result<Call, Place>
 mod tests {
     use super::*;
 
-    // The number of the first wrong word; 0 if the line reads as a call.
-    fn wrong_word(line: &[u8]) -> usize {
-        match read_line(line, 1) {
-            Ok(_) => 0,
-            Err(place) => place.word,
-        }
+    // The number of the first wrong word; none if the line reads as a call.
+    fn wrong_word(line: &[u8]) -> Option<usize> {
+        read_line(line, 1).err().map(|place| place.word)
     }
 
     #[test]
     fn reads_a_call(rt: HostRuntime) {
-        assert_eq!(rt; wrong_word(b"drop 0 0"), 0);
-        assert_eq!(rt; wrong_word(b"derive 0 1 2 16 65535 rwo"), 0);
+        assert_eq!(rt; wrong_word(b"drop 0 0"), None);
+        assert_eq!(rt; wrong_word(b"derive 0 1 2 16 65535 rwo"), None);
     }
 
     #[test]
     fn refuses_a_leading_zero(rt: HostRuntime) {
-        assert_eq!(rt; wrong_word(b"grant 0 0 01"), 4);
+        assert_eq!(rt; wrong_word(b"grant 0 0 01"), Some(4));
     }
 
     #[test]
     fn refuses_an_empty_word(rt: HostRuntime) {
-        assert_eq!(rt; wrong_word(b"drop 0 0 "), 4);
-        assert_eq!(rt; wrong_word(b"drop  0 0"), 2);
-        assert_eq!(rt; wrong_word(b" "), 1);
+        assert_eq!(rt; wrong_word(b"drop 0 0 "), Some(4));
+        assert_eq!(rt; wrong_word(b"drop  0 0"), Some(2));
+        assert_eq!(rt; wrong_word(b" "), Some(1));
     }
 }

@@ -1,6 +1,5 @@
-ghost use Rattle.std.specs.Prelude.{◌≡◌, OnOk};
-ghost use Rattle.reader.specs.Lines.{Reads};
-ghost use Rattle.reader.specs.Scripts.{ReadsScript};
+ghost use Rattle.std.specs.Prelude.{◌≡◌, ◌+◌, ◌<◌, ◌^◌, IfOk, OnOk};
+ghost use Rattle.reader.specs.Scripts.{Readings, ReadsScript, numbered_lines};
 ghost use Rattle.reader.specs.Steps.{LinePushed};
 ghost use Rattle.reader.specs.declared.script.ReadError.TheVariants.{Memory as MemoryError};
 
@@ -31,26 +30,32 @@ impl From<AllocError> for ReadError {
     }
 }
 
-// The entry of a line.
-fn entry_of(line: &[u8], number: usize) -> Entry
-    ensures line { result.line ≡ number }
-    ensures reading { Reads line.now number result.reading }
-{
-    Entry {
-        line: number,
-        reading: read_line(line, number),
-    }
-}
-
-// Adds the entry of a line, unless the line is empty.
-fn push_line(entries: &mut Vec<Entry>, line: &[u8], number: usize) -> Result<(), AllocError>
-    ensures { OnOk result (LinePushed line.now number entries.old.items entries.new.items) }
+// Adds the entry of the line at an index, unless the line is empty.
+fn push_line(entries: &mut Vec<Entry>, line: &[u8], index: usize) -> Result<(), AllocError>
+    requires { index + 1 < 2 ^ 64 }
+    ensures { OnOk result (LinePushed line.now (index + 1) entries.old.items entries.new.items) }
 {
     if line.is_empty() {
         return Ok(());
     }
-    entries.push(entry_of(line, number))?;
+    let number = index + 1;
+    let reading = read_line(line, number);
+    entries.push(Entry {
+        line: number,
+        reading,
+    })?;
     Ok(())
+}
+
+// The entries of a script's lines, in order.
+fn read_lines(heap: Global, script: &[u8]) -> Result<Vec<Entry>, AllocError>
+    ensures { IfOk result (λ entries. Readings (numbered_lines script.now) entries.items) }
+{
+    let mut entries = Vec::new(heap);
+    for (i, line) in script.split(|byte| *byte == b'\n').enumerate() {
+        push_line(&mut entries, line, i)?;
+    }
+    Ok(entries)
 }
 
 // What the lines of a script read as: an entry for each that is not empty, in order.
@@ -60,11 +65,7 @@ pub fn read_script(heap: Global, script: &[u8]) -> Result<Vec<Entry>, ReadError>
     if script.len() > 32768 {
         return Err(ReadError::TooLong);
     }
-    let mut entries = Vec::new(heap);
-    for (i, line) in script.split(|byte| *byte == b'\n').enumerate() {
-        push_line(&mut entries, line, i + 1)?;
-    }
-    Ok(entries)
+    Ok(read_lines(heap, script)?)
 }
 
 #[cfg(test)]

@@ -65,18 +65,12 @@ impl Verb {
     pub(crate) fn kinds(self) -> &'static [Kind]
         ensures { result.now ≡ kinds_of self }
     {
+        use Kind::{Number, Permissions};
         match self {
-            Verb::Drop => &[Kind::Number; 2],
-            Verb::Grant | Verb::Getb => &[Kind::Number; 3],
-            Verb::Putb | Verb::Putc | Verb::Getc | Verb::Give => &[Kind::Number; 4],
-            Verb::Derive => &[
-                Kind::Number,
-                Kind::Number,
-                Kind::Number,
-                Kind::Number,
-                Kind::Number,
-                Kind::Permissions,
-            ],
+            Verb::Drop => &[Number, Number],
+            Verb::Grant | Verb::Getb => &[Number, Number, Number],
+            Verb::Putb | Verb::Putc | Verb::Getc | Verb::Give => &[Number, Number, Number, Number],
+            Verb::Derive => &[Number, Number, Number, Number, Number, Permissions],
         }
     }
 

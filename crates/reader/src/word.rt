@@ -33,8 +33,7 @@ impl<'a> Word<'a> {
     {
         match self {
             Word::Verb { text, place } => named_verb(text).ok_or(place),
-            Word::Number { text: _, place } => Err(place),
-            Word::Permissions { text: _, place } => Err(place),
+            Word::Number { place, .. } | Word::Permissions { place, .. } => Err(place),
         }
     }
 
@@ -43,7 +42,7 @@ impl<'a> Word<'a> {
         ensures { ValueRead self.entry result }
     {
         match self {
-            Word::Verb { text: _, place } => Err(place),
+            Word::Verb { place, .. } => Err(place),
             Word::Number { text, place } => read_number(text).ok_or(place),
             Word::Permissions { text, place } => read_permissions(text).ok_or(place),
         }

@@ -5,7 +5,7 @@ use Rattle.std.proofs.lemmas.List.{length_push}
 use Rattle.std.specs.Slice.Iter.{split_rest, split_done}
 use Rattle.std.specs.Iterator.Adapters.{enumerate_source, enumerate_count}
 use Rattle.reader.proofs.Reading.{next_part, no_parts, one_read, all_read}
-use Rattle.reader.proofs.script.read_script.Goals as goal
+use Rattle.reader.proofs.script.read_lines.Goals as goal
 
 pub loop-i-preserved : goal.loop-i-preserved
 loop-i-preserved c =
@@ -15,4 +15,4 @@ loop-i-preserved c =
 pub returns : goal.returns
 returns c =
     let t = no_parts _ c.args.script.now _ _ _ c.loop-i.yielded _ (search rules) (search rules) (search rules) c.loop-i.yielded_by c.in-None.is c.next.ensures.steps (λ x b q k. search (rules, tests)) in
-    (omega arith, all_read c.args.script.now (length c.loop-i.yielded) (vec_items c.loop-i.entries) t c.loop-i.invariant)
+    all_read c.args.script.now (length c.loop-i.yielded) (vec_items c.loop-i.entries) t c.loop-i.invariant

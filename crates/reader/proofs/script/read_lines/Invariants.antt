@@ -1,7 +1,7 @@
 use Rattle.std.proofs.Common.{◌≤◌, eqb, length, take, vec_items}
 use Rattle.std.specs.List.{slice_split}
 use Rattle.reader.specs.Scripts.{numbered_from, Readings}
-use Rattle.reader.proofs.script.read_script.Given as goal
+use Rattle.reader.proofs.script.read_lines.Given as goal
 
 -- the entries are those of the lines so far
 abbrev pub invariant-loop-i : goal.invariant-loop-i
