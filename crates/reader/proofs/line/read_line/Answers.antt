@@ -1,4 +1,4 @@
-use Rattle.std.proofs.Common.{◌≡◌, ℕ, ◌+◌, ◌<◌, ◌≤◌, List, ◌∷◌, ◌++◌, length, take, Ok, Err, None, Some, Option, sym, ap, ◌∙◌, arith, rules}
+use Rattle.std.proofs.Common.{◌≡◌, ℕ, ◌+◌, List, ◌∷◌, ◌++◌, length, take, Ok, Err, sym, ap, ◌∙◌, arith, rules}
 use Rattle.std.proofs.lemmas.Result.{err_from_is_err_and}
 use borrow.Author.Tests.{tests}
 use Rattle.reader.specs.declared.verb.Verb.{Verb}
@@ -6,7 +6,7 @@ use Rattle.reader.specs.Calls.{name_of, operand_texts, kinds_of}
 use Rattle.reader.proofs.Once.{reads_once}
 use Rattle.reader.proofs.Operands.{operand_read}
 use Rattle.reader.proofs.Splits.{word_taken, no_words, one_word, all_words}
-use Rattle.reader.proofs.Stopping.{stops_at, breaks_at, no_verb, wrong_word, too_many, missing, whole, again}
+use Rattle.reader.proofs.Stopping.{breaks_at, no_verb, wrong_word, too_many, missing, whole, again}
 use Rattle.reader.proofs.line.read_line.Goals as goal
 
 -- the words so far, and those to come

@@ -1,4 +1,4 @@
-use Rattle.std.proofs.Common.{◌≡◌, ◌+◌, ◌∷◌, ◌++◌, length, take}
+use Rattle.std.proofs.Common.{◌≡◌, ◌∷◌, ◌++◌, length, take}
 use Rattle.reader.specs.Calls.{name_of, operand_texts, kinds_of, WithinKinds}
 use Rattle.reader.specs.Lines.{split}
 use Rattle.reader.proofs.Splits.{words_left}

@@ -1,9 +1,7 @@
-use Rattle.std.proofs.Common.{◌+◌, ◌≤◌, eqb, length, ap, ◌∙◌, arith, rules, vec_items}
+use Rattle.std.proofs.Common.{◌+◌, eqb, length, arith, rules, vec_items}
 use borrow.Author.Tests.{tests}
 use Rattle.std.specs.List.{slice_split}
 use Rattle.std.proofs.lemmas.List.{length_push}
-use Rattle.std.specs.Slice.Iter.{split_rest, split_done}
-use Rattle.std.specs.Iterator.Adapters.{enumerate_source, enumerate_count}
 use Rattle.reader.proofs.Reading.{next_part, no_parts, one_read, all_read}
 use Rattle.reader.proofs.script.read_lines.Goals as goal
 

@@ -1,4 +1,4 @@
-use Rattle.std.proofs.Common.{◌≤◌, eqb, length, take, vec_items}
+use Rattle.std.proofs.Common.{eqb, length, take, vec_items}
 use Rattle.std.specs.List.{slice_split}
 use Rattle.reader.specs.Scripts.{numbered_from, Readings}
 use Rattle.reader.proofs.script.read_lines.Given as goal
