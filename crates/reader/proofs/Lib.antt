@@ -1,6 +1,5 @@
 mod Numbers
 mod Spelling
-mod Short
 mod Splits
 mod Calls
 mod Stopping

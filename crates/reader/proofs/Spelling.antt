@@ -1,7 +1,9 @@
 -- Reading permission letters.
 use Rattle.std.proofs.Common.{◌≡◌, ℕ, zero, suc, ◌+◌, ◌<◌, ◌≤◌, Bool, true, false, not, ◌&&◌, eqb, ltb, ◌⊎◌, List, [], ◌∷◌, ◌++◌, length, get_or, drop, Some, None, codes, Option, sym, refl, ap, ◌∙◌, inl, inr, ⊎_elim, arith}
 use Rattle.std.proofs.lemmas.List.{at_drop_more, at_drop_all, append-nil, append_assoc}
-use Rattle.std.proofs.lemmas.Bool.{cond-true, cond-false, ltb-true, cases_Bool, cases_eq, and_parts, eqb-true, ne_eqb, not-true}
+use Rattle.std.specs.Str.{bytes_eq}
+use Rattle.std.specs.Cmp.Lexicographic.{same_text}
+use Rattle.std.proofs.lemmas.Bool.{agree_below_at, cond-true, cond-false, ltb-true, cases_Bool, cases_eq, and_parts, eqb-true, ne_eqb, not-true}
 use Rattle.std.proofs.lemmas.Bool.Decides.{nat_tests}
 use Rattle.reader.specs.Steps.{letter_bit, with_bit, with_letter}
 use Rattle.reader.specs.Texts.{ReadsAs, letters_of, letters_from}
@@ -19,32 +21,7 @@ spelled_none : (cs : List ℕ) → spelled None cs ≡ None
 spelled_none [] = refl
 spelled_none (c ∷ cs) = spelled_none cs
 
--- tests that compute: of each number below n
-abbrev pub each_below : (ℕ → Bool) → ℕ → Bool
-each_below p zero = true
-each_below p (suc n) = p n && each_below p n
-
-pub below_at : (p : ℕ → Bool) (n k : ℕ) → each_below p n ≡ true → k < n → p k ≡ true
-below_at p zero k e h = absurd (omega arith)
-below_at p (suc n) k e h =
-    let both = and_parts (p n) (each_below p n) e in
-    ⊎_elim (λ (q : k ≡ n). rw q both.0) (λ (q : k ≡ n → ⊥). below_at p n k both.1 (omega arith)) (cases_eq k n)
-
-abbrev pub same_list : List ℕ → List ℕ → Bool
-same_list [] [] = true
-same_list [] (y ∷ ys) = false
-same_list (x ∷ xs) [] = false
-same_list (x ∷ xs) (y ∷ ys) = eqb x y && same_list xs ys
-
-same_true : (xs ys : List ℕ) → same_list xs ys ≡ true → xs ≡ ys
-same_true [] [] e = refl
-same_true [] (y ∷ ys) e = absurd (let z : ◌≡◌ {A = ℕ} 0 1 = cc in omega arith)
-same_true (x ∷ xs) [] e = absurd (let z : ◌≡◌ {A = ℕ} 0 1 = cc in omega arith)
-same_true (x ∷ xs) (y ∷ ys) e =
-    let both = and_parts (eqb x y) (same_list xs ys) e in
-    let p = eqb-true x y both.0 in
-    let q = same_true xs ys both.1 in cc
-
+-- tests that compute
 abbrev is_some : ℕ → Option ℕ → Bool
 is_some q (Some p) = eqb p q
 is_some q None = false
@@ -55,11 +32,11 @@ some_true q None e = absurd (let z : ◌≡◌ {A = ℕ} 0 1 = cc in omega arith
 
 -- the 31 numbers from 1 on read back
 spelled_letters : (p : ℕ) → p < 31 → spelled (Some 0) (letters_of (suc p)) ≡ Some (suc p)
-spelled_letters p h = some_true (suc p) (spelled (Some 0) (letters_of (suc p))) (below_at (λ n. is_some (suc n) (spelled (Some 0) (letters_of (suc n)))) 31 p refl h)
+spelled_letters p h = some_true (suc p) (spelled (Some 0) (letters_of (suc p))) (agree_below_at (λ n. is_some (suc n) (spelled (Some 0) (letters_of (suc n)))) (λ _. true) 31 p refl h)
 
 -- one letter more: 31 cases computed
 abbrev lengthens : ℕ → ℕ → ℕ → Bool
-lengthens c b s = same_list (letters_from (codes "rwcgo") (s + b)) (letters_from (codes "rwcgo") s ++ (c ∷ []))
+lengthens c b s = bytes_eq (letters_from (codes "rwcgo") (s + b)) (letters_from (codes "rwcgo") s ++ (c ∷ []))
 
 some_inj : (a b : ℕ) → Some a ≡ Some b → a ≡ b
 some_inj a b e = cc
@@ -68,14 +45,14 @@ letter_cases : (c b : ℕ) → letter_bit c ≡ Some b → ((c ≡ 114) × (b �
 letter_cases c b e = grind (arith, nat_tests)
 
 one_more : (c b s : ℕ) → letter_bit c ≡ Some b → s < b → letters_from (codes "rwcgo") (s + b) ≡ letters_from (codes "rwcgo") s ++ (c ∷ [])
-one_more c b s e h = same_true _ _ (
+one_more c b s e h = same_text _ _ (sym (
     elim (letter_cases c b e) [
-      | inl p ↦ rw (p.0, p.1) (below_at (lengthens 114 1) 1 s refl (omega arith))
-      | inr (inl p) ↦ rw (p.0, p.1) (below_at (lengthens 119 2) 2 s refl (omega arith))
-      | inr (inr (inl p)) ↦ rw (p.0, p.1) (below_at (lengthens 99 4) 4 s refl (omega arith))
-      | inr (inr (inr (inl p))) ↦ rw (p.0, p.1) (below_at (lengthens 103 8) 8 s refl (omega arith))
-      | inr (inr (inr (inr p))) ↦ rw (p.0, p.1) (below_at (lengthens 111 16) 16 s refl (omega arith))
-    ])
+      | inl p ↦ rw (p.0, p.1) (agree_below_at (lengthens 114 1) (λ _. true) 1 s refl (omega arith))
+      | inr (inl p) ↦ rw (p.0, p.1) (agree_below_at (lengthens 119 2) (λ _. true) 2 s refl (omega arith))
+      | inr (inr (inl p)) ↦ rw (p.0, p.1) (agree_below_at (lengthens 99 4) (λ _. true) 4 s refl (omega arith))
+      | inr (inr (inr (inl p))) ↦ rw (p.0, p.1) (agree_below_at (lengthens 103 8) (λ _. true) 8 s refl (omega arith))
+      | inr (inr (inr (inr p))) ↦ rw (p.0, p.1) (agree_below_at (lengthens 111 16) (λ _. true) 16 s refl (omega arith))
+    ]))
 
 -- what a letter more tells
 pub record LetterMore (s c m : ℕ) : Type 0 where
@@ -149,7 +126,7 @@ letters_none bs e dash (suc m) h t =
 pub letters_empty : (bs : List ℕ) → length bs ≡ 0 → ReadsAs letters_of 31 bs None
 letters_empty bs e m h t =
     let z : length (letters_of m) ≡ 0 = ap length (sym t) ∙ e in
-    let k : eqb (length (letters_of m)) 0 ≡ false = not-true _ (below_at (λ n. not (eqb (length (letters_of n)) 0)) 32 m refl (omega arith)) in
+    let k : eqb (length (letters_of m)) 0 ≡ false = not-true _ (agree_below_at (λ n. not (eqb (length (letters_of n)) 0)) (λ _. true) 32 m refl (omega arith)) in
     grind (arith, nat_tests)
 
 pub letters_dash : (bs : List ℕ) → length bs ≡ 1 → get_or bs 0 0 ≡ 45 → ReadsAs letters_of 31 bs (Some 0)

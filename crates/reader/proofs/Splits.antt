@@ -1,7 +1,7 @@
 -- The words of a line.
 use Rattle.std.proofs.Common.{◌≡◌, ℕ, Bool, true, false, cond, not, ◌&&◌, eqb, List, [], ◌∷◌, ◌++◌, length, Some, None, Option, sym, refl, ap, ◌∙◌, inl, inr, arith}
 use Rattle.std.specs.List as L
-use Rattle.std.specs.List.{slice_split, IsFirstMatchOrLen, All}
+use Rattle.std.specs.List.{slice_split, join_with_byte, IsFirstMatchOrLen, All}
 use Rattle.std.specs.declared.slice.Split.{Split}
 use Rattle.std.specs.Slice.Iter.{split_rest, split_done, split_steps}
 use Rattle.std.specs.Bool.{MatchBool}
@@ -10,7 +10,7 @@ use Rattle.std.proofs.lemmas.Fn.{always_returns_same}
 use Rattle.std.specs.Option.{is_some}
 use denote.Ref.{Bor}
 use denote.Param.Members.{Mut}
-use Rattle.std.proofs.lemmas.List.Splits.{slice_split_none, slice_split_at}
+use Rattle.std.proofs.lemmas.List.Splits.{slice_split_none, slice_split_at, join_with_byte-slice_split}
 use Rattle.std.proofs.lemmas.Grind.{common_steps}
 use Rattle.std.proofs.lemmas.Bool.{cond-true, cond-false, cases_Bool, and_parts, eqb-true, not-true}
 use Rattle.reader.specs.Calls.{with_spaces}
@@ -61,35 +61,16 @@ pub one_word : (s t : Split ℕ (Unit {0})) (g : Mut (Unit {0}) (Bor ℕ × Unit
 one_word s t g (Some x) k h e = (x.now, word_taken g s t (Some x) x k h refl)
 one_word s t g None k h e = absurd (let z : ◌≡◌ {A = ℕ} 0 1 = cc in omega arith)
 
-pub all_words : (s : Split ℕ (Unit {0})) (line : List ℕ) → split_rest s ≡ line → split_done s ≡ false → words_left s ≡ split line
-all_words s line r d = λ i. cond (d i) [] (split (r i))
+pub first_word : (g : Mut (Unit {0}) (Bor ℕ × Unit {0}) Bool) (s t : Split ℕ (Unit {0})) (r : Option (Bor (List ℕ))) (x : Bor (List ℕ)) (line : List ℕ) → split_rest s ≡ line → split_done s ≡ false → ((y : ℕ) (b : Bool) (q : Unit {0}) → CalledAt g tt y b q → (q ≡ tt) × (b ≡ eqb y 32)) → split_steps g s r t → r ≡ Some x → split line ≡ x.now ∷ words_left t
+first_word g s t r x line rest done k h e = sym (λ i. cond (done i) [] (split (rest i))) ∙ word_taken g s t r x k h e
 
 -- a line is its words with spaces between
-pub record Apart (xs : List ℕ) : Type 0 where
-  pub first : List ℕ
-  pub others : List (List ℕ)
-  pub is : split xs ≡ first ∷ others
-  pub back : with_spaces first others ≡ xs
-
-spaces_onto : (c : ℕ) (w : List ℕ) (ws : List (List ℕ)) → with_spaces (c ∷ w) ws ≡ c ∷ with_spaces w ws
-spaces_onto c w [] = refl
-spaces_onto c w (v ∷ ws) = refl
-
-pub apart : (xs : List ℕ) → Apart xs
-apart [] = record { first = []; others = []; is = refl; back = refl }
-apart (c ∷ cs) =
-    let a = apart cs in
-    elim (cases_Bool (eqb c 32)) [
-      | inl e ↦ record { first = []; others = a.first ∷ a.others; is = cond-true _ _ _ e ∙ ap (λ ws. [] ∷ ws) a.is; back = let q : c ≡ 32 = eqb-true c 32 e in rw (a.back, q) refl }
-      | inr e ↦ record { first = c ∷ a.first; others = a.others; is = cond-false _ _ _ e ∙ ap (onto_first c) a.is; back = spaces_onto c a.first a.others ∙ ap (λ ys. c ∷ ys) a.back }
-    ]
+joined : (w : List ℕ) (ws : List (List ℕ)) → join_with_byte 32 (w ∷ ws) ≡ with_spaces w ws
+joined w [] = refl
+joined w (v ∷ ws) = ap (λ xs. w ++ (32 ∷ xs)) (joined v ws)
 
 pub split_back : (xs w : List ℕ) (ws : List (List ℕ)) → split xs ≡ w ∷ ws → xs ≡ with_spaces w ws
-split_back xs w ws e =
-    let a = apart xs in
-    let p : a.first ≡ w = cc (sym a.is ∙ e) in
-    let q : a.others ≡ ws = cc (sym a.is ∙ e) in
-    sym a.back ∙ (λ i. with_spaces (p i) (q i))
+split_back xs w ws e = sym (join_with_byte-slice_split 32 xs) ∙ (ap (join_with_byte 32) (split_parts xs ∙ e) ∙ joined w ws)
 
 -- and words without spaces are those of their line
 abbrev pub clean : List ℕ → Bool

@@ -1,11 +1,11 @@
-use Rattle.std.proofs.Common.{◌≡◌, ℕ, ◌+◌, List, ◌∷◌, ◌++◌, length, take, Ok, Err, sym, ap, ◌∙◌, arith, rules}
+use Rattle.std.proofs.Common.{◌≡◌, ℕ, ◌+◌, List, ◌∷◌, ◌++◌, length, take, Ok, Err, ap, ◌∙◌, arith, rules}
 use Rattle.std.proofs.lemmas.Result.{err_from_is_err_and}
 use borrow.Author.Tests.{tests}
 use Rattle.reader.specs.declared.verb.Verb.{Verb}
 use Rattle.reader.specs.Calls.{name_of, operand_texts, kinds_of}
 use Rattle.reader.proofs.Once.{reads_once}
 use Rattle.reader.proofs.Operands.{operand_read}
-use Rattle.reader.proofs.Splits.{word_taken, no_words, one_word, all_words}
+use Rattle.reader.proofs.Splits.{word_taken, no_words, one_word, first_word}
 use Rattle.reader.proofs.Stopping.{breaks_at, no_verb, wrong_word, too_many, missing, whole, again}
 use Rattle.reader.proofs.line.read_line.Goals as goal
 
@@ -18,7 +18,7 @@ returns-in_err-verb c =
     let line = c.args.line.now in
     let p = err_from_is_err_and c.from_residual-in_err-verb.result c.from_residual-in_err-verb.ensures.1 in
     let known = c.in_err-verb.ensures in
-    let first = sym (all_words c.split-words.result line c.split-words.ensures.rest c.split-words.ensures.done) ∙ word_taken _ _ _ _ c.in_ok-text.text (λ x b q k. search (rules, tests)) c.next.ensures.steps c.in_ok-text.ensures.ok_part in
+    let first = first_word _ _ _ _ c.in_ok-text.text line c.split-words.ensures.rest c.split-words.ensures.done (λ x b q k. search (rules, tests)) c.next.ensures.steps c.in_ok-text.ensures.ok_part in
     record {
       law = breaks_at line _ 1 _ p.0 c.of_verb-place.result p.1 (p.2 ∙ known.0) c.of_verb-place.ensures.line c.of_verb-place.ensures.word (no_verb line _ _ first known.1);
       once = reads_once;
@@ -27,7 +27,7 @@ returns-in_err-verb c =
 pub loop-i-init : goal.loop-i-init
 loop-i-init c =
     let line = c.args.line.now in
-    let first = sym (all_words c.split-words.result line c.split-words.ensures.rest c.split-words.ensures.done) ∙ word_taken _ _ _ _ c.in_ok-text.text (λ x b q k. search (rules, tests)) c.next.ensures.steps c.in_ok-text.ensures.ok_part in
+    let first = first_word _ _ _ _ c.in_ok-text.text line c.split-words.ensures.rest c.split-words.ensures.done (λ x b q k. search (rules, tests)) c.next.ensures.steps c.in_ok-text.ensures.ok_part in
     record { words = cc (first, c.in_ok-verb.ensures); fit = search rules; six = search rules }
 
 pub returns-in_err-text-2 : goal.returns-in_err-text-2
