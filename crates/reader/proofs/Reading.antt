@@ -14,7 +14,7 @@ use Rattle.std.proofs.lemmas.Iterator.Splits.{YieldsList-from_slice_split}
 use Rattle.std.proofs.lemmas.List.FromFn.{length-enumerate_from, get_or-enumerate_from}
 use denote.Ref.{Bor}
 use denote.Param.Members.{Mut}
-use Rattle.reader.proofs.Splits.{onto_same}
+use Rattle.reader.proofs.Splits.{Test, CutsAt, onto_same}
 use Rattle.std.proofs.lemmas.List.{take_more, take_all, length-take-le}
 use Rattle.reader.specs.declared.script.Entry.{Entry}
 use Rattle.reader.specs.Lines.{onto_first}
@@ -66,14 +66,14 @@ one_read ws i j n w es fs h e k m r p =
     subst (λ (ls : List NumberedLine). Readings ls fs) (sym s) (subst (λ (xs : List Entry). Readings (numbered_from 1 (take i ws) ++ numbered_from n (w ∷ [])) xs) (sym p.2) (readings_append (numbered_from 1 (take i ws)) (numbered_from n (w ∷ [])) es p.0 r p.1))
 
 -- the loop over the parts with their places
-parts_road : (g : Mut (Unit {0}) (Bor ℕ × Unit {0}) Bool) (script : List ℕ) (s : Enumerate (Split ℕ (Unit {0}))) → split_rest (enumerate_source s) ≡ script → split_done (enumerate_source s) ≡ false → enumerate_count s ≡ 0
-    → ((y : ℕ) (b : Bool) (q : Unit {0}) → CalledAt g tt y b q → (q ≡ tt) × (b ≡ eqb y 10)) → YieldsList {B = ℕ × List ℕ} (enumerate_steps (split_steps g)) (λ p. (p.0, p.1.now)) s (enumerate_from 0 (slice_split (λ b. eqb b 10) script))
+parts_road : (g : Test) (script : List ℕ) (s : Enumerate (Split ℕ (Unit {0}))) → split_rest (enumerate_source s) ≡ script → split_done (enumerate_source s) ≡ false → enumerate_count s ≡ 0
+    → CutsAt 10 g → YieldsList {B = ℕ × List ℕ} (enumerate_steps (split_steps g)) (λ p. (p.0, p.1.now)) s (enumerate_from 0 (slice_split (λ b. eqb b 10) script))
 parts_road g script s r d n k = YieldsList-from_enumerate (YieldsList-from_slice_split g (λ b. eqb b 10) script r d refl k) n
 
 -- the loop's item is the next part, with its place
-pub next_part : (g : Mut (Unit {0}) (Bor ℕ × Unit {0}) Bool) (script : List ℕ) (s t u : Enumerate (Split ℕ (Unit {0}))) (xs : List (ℕ × Bor (List ℕ))) (o : Option (ℕ × Bor (List ℕ))) (i : ℕ) (w : Bor (List ℕ))
+pub next_part : (g : Test) (script : List ℕ) (s t u : Enumerate (Split ℕ (Unit {0}))) (xs : List (ℕ × Bor (List ℕ))) (o : Option (ℕ × Bor (List ℕ))) (i : ℕ) (w : Bor (List ℕ))
     → split_rest (enumerate_source s) ≡ script → split_done (enumerate_source s) ≡ false → enumerate_count s ≡ 0 → Yields (enumerate_steps (split_steps g)) s xs t → o ≡ Some (i, w) → enumerate_steps (split_steps g) t o u
-    → ((y : ℕ) (b : Bool) (q : Unit {0}) → CalledAt g tt y b q → (q ≡ tt) × (b ≡ eqb y 10))
+    → CutsAt 10 g
     → (length xs < length (slice_split (λ b. eqb b 10) script)) × (i ≡ length xs) × (w.now ≡ get_or (slice_split (λ b. eqb b 10) script) (length xs) w.now)
 next_part g script s t u xs o i w r d n y e h k =
     let parts = slice_split (λ b. eqb b 10) script in
@@ -83,9 +83,9 @@ next_part g script s t u xs o i w r d n y e h k =
     let m : i ≡ 0 + length xs = ap (λ p. p.0) q in
     (l, omega arith, ap (λ p. p.1) q)
 
-pub no_parts : (g : Mut (Unit {0}) (Bor ℕ × Unit {0}) Bool) (script : List ℕ) (s t u : Enumerate (Split ℕ (Unit {0}))) (xs : List (ℕ × Bor (List ℕ))) (o : Option (ℕ × Bor (List ℕ)))
+pub no_parts : (g : Test) (script : List ℕ) (s t u : Enumerate (Split ℕ (Unit {0}))) (xs : List (ℕ × Bor (List ℕ))) (o : Option (ℕ × Bor (List ℕ)))
     → split_rest (enumerate_source s) ≡ script → split_done (enumerate_source s) ≡ false → enumerate_count s ≡ 0 → Yields (enumerate_steps (split_steps g)) s xs t → o ≡ None → enumerate_steps (split_steps g) t o u
-    → ((y : ℕ) (b : Bool) (q : Unit {0}) → CalledAt g tt y b q → (q ≡ tt) × (b ≡ eqb y 10))
+    → CutsAt 10 g
     → length (slice_split (λ b. eqb b 10) script) ≤ length xs
 no_parts g script s t u xs o r d n y e h k =
     let a = YieldsList-end (parts_road g script s r d n k) xs t y o u e h in

@@ -1,7 +1,7 @@
 -- The words of a line.
 use Rattle.std.proofs.Common.{◌≡◌, ℕ, Bool, true, false, cond, not, ◌&&◌, eqb, List, [], ◌∷◌, ◌++◌, length, Some, None, Option, sym, refl, ap, ◌∙◌, inl, inr, arith}
 use Rattle.std.specs.List as L
-use Rattle.std.specs.List.{slice_split, join_with_byte, IsFirstMatchOrLen, All}
+use Rattle.std.specs.List.{slice_split, join_with_byte, list_all, IsFirstMatchOrLen, All}
 use Rattle.std.specs.declared.slice.Split.{Split}
 use Rattle.std.specs.Slice.Iter.{split_rest, split_done, split_steps}
 use Rattle.std.specs.Bool.{MatchBool}
@@ -10,11 +10,19 @@ use Rattle.std.proofs.lemmas.Fn.{always_returns_same}
 use Rattle.std.specs.Option.{is_some}
 use denote.Ref.{Bor}
 use denote.Param.Members.{Mut}
+use Rattle.std.proofs.lemmas.List.Sums.{AllPass-from_list_all}
 use Rattle.std.proofs.lemmas.List.Splits.{slice_split_none, slice_split_at, join_with_byte-slice_split}
 use Rattle.std.proofs.lemmas.Grind.{common_steps}
 use Rattle.std.proofs.lemmas.Bool.{cond-true, cond-false, cases_Bool, and_parts, eqb-true, not-true}
 use Rattle.reader.specs.Calls.{with_spaces}
 use Rattle.reader.specs.Lines.{split, onto_first}
+
+-- what a closure that tests bytes may answer, and that it is true just at one byte
+abbrev pub Test : Type 1
+Test = Mut (Unit {0}) (Bor ℕ × Unit {0}) Bool
+
+abbrev pub CutsAt : ℕ → Test → Type 0
+CutsAt stop g = (y : ℕ) (b : Bool) (q : Unit {0}) → CalledAt g tt y b q → (q ≡ tt) × (b ≡ eqb y stop)
 
 pub onto_same : (c : ℕ) (ws : List (List ℕ)) → L.onto_first c ws ≡ onto_first c ws
 onto_same c [] = refl
@@ -33,6 +41,7 @@ split_parts (c ∷ cs) = go (eqb c 32) refl (split_parts cs)
 abbrev pub words_left : Split ℕ (Unit {0}) → List (List ℕ)
 words_left s = cond (split_done s) [] (split (split_rest s))
 
+-- the first part, after which the iterator is at the rest or done
 first_part : (xs x rest : List ℕ) (done : Bool) → MatchBool done (xs ≡ x) ((y : ℕ) × (xs ≡ x ++ (y ∷ rest))) → IsFirstMatchOrLen (λ b. eqb b 32) xs (length x)
     → slice_split (λ b. eqb b 32) xs ≡ x ∷ cond done [] (slice_split (λ b. eqb b 32) rest)
 first_part xs x rest true e h =
@@ -43,7 +52,8 @@ first_part xs x rest false e h =
     let hit : eqb e.0 32 ≡ true = let b = e.1 in let a = h.1 (grind (arith, common_steps)) e.0 in grind (arith, common_steps) in
     ap (slice_split (λ b. eqb b 32)) e.1 ∙ slice_split_at (λ b. eqb b 32) x e.0 rest front hit
 
-pub word_taken : (g : Mut (Unit {0}) (Bor ℕ × Unit {0}) Bool) (s t : Split ℕ (Unit {0})) (r : Option (Bor (List ℕ))) (x : Bor (List ℕ)) → ((y : ℕ) (b : Bool) (q : Unit {0}) → CalledAt g tt y b q → (q ≡ tt) × (b ≡ eqb y 32)) → split_steps g s r t → r ≡ Some x → words_left s ≡ x.now ∷ words_left t
+-- what a call of `next` takes off
+pub word_taken : (g : Test) (s t : Split ℕ (Unit {0})) (r : Option (Bor (List ℕ))) (x : Bor (List ℕ)) → CutsAt 32 g → split_steps g s r t → r ≡ Some x → words_left s ≡ x.now ∷ words_left t
 word_taken g s t (Some y) x k h e =
     let l : words_left s ≡ split (split_rest s) = ap (λ b. cond b [] (split (split_rest s))) h.0 in
     let key : ComputesKey g (λ b. eqb b 32) tt = always_returns_same g (λ a b. b ≡ eqb a.0.now 32) tt (λ a b q m. let n = k a.0.now b q (record { shown = a.0; shows = refl; called = m }) in (n.1, n.0)) in
@@ -52,16 +62,16 @@ word_taken g s t (Some y) x k h e =
     l ∙ (sym (split_parts (split_rest s)) ∙ (p ∙ ((λ i. y_is i ∷ cond (split_done t) [] (split_parts (split_rest t) i)))))
 word_taken g s t None x k h e = absurd (let z : ◌≡◌ {A = ℕ} 0 1 = cc in omega arith)
 
-pub no_words : (g : Mut (Unit {0}) (Bor ℕ × Unit {0}) Bool) (s t : Split ℕ (Unit {0})) (r : Option (Bor (List ℕ))) → split_steps g s r t → r ≡ None → words_left s ≡ []
+pub no_words : (g : Test) (s t : Split ℕ (Unit {0})) (r : Option (Bor (List ℕ))) → split_steps g s r t → r ≡ None → words_left s ≡ []
 no_words g s t None h e = ap (λ b. cond b [] (split (split_rest s))) h.0
 no_words g s t (Some y) h e = absurd (let z : ◌≡◌ {A = ℕ} 0 1 = cc in omega arith)
 
--- a word more
-pub one_word : (s t : Split ℕ (Unit {0})) (g : Mut (Unit {0}) (Bor ℕ × Unit {0}) Bool) (r : Option (Bor (List ℕ))) → ((y : ℕ) (b : Bool) (q : Unit {0}) → CalledAt g tt y b q → (q ≡ tt) × (b ≡ eqb y 32)) → split_steps g s r t → is_some r ≡ true → (w : List ℕ) × (words_left s ≡ w ∷ words_left t)
-one_word s t g (Some x) k h e = (x.now, word_taken g s t (Some x) x k h refl)
-one_word s t g None k h e = absurd (let z : ◌≡◌ {A = ℕ} 0 1 = cc in omega arith)
+pub one_word : (g : Test) (s t : Split ℕ (Unit {0})) (r : Option (Bor (List ℕ))) → CutsAt 32 g → split_steps g s r t → is_some r ≡ true → (w : List ℕ) × (words_left s ≡ w ∷ words_left t)
+one_word g s t (Some x) k h e = (x.now, word_taken g s t (Some x) x k h refl)
+one_word g s t None k h e = absurd (let z : ◌≡◌ {A = ℕ} 0 1 = cc in omega arith)
 
-pub first_word : (g : Mut (Unit {0}) (Bor ℕ × Unit {0}) Bool) (s t : Split ℕ (Unit {0})) (r : Option (Bor (List ℕ))) (x : Bor (List ℕ)) (line : List ℕ) → split_rest s ≡ line → split_done s ≡ false → ((y : ℕ) (b : Bool) (q : Unit {0}) → CalledAt g tt y b q → (q ≡ tt) × (b ≡ eqb y 32)) → split_steps g s r t → r ≡ Some x → split line ≡ x.now ∷ words_left t
+-- at the start of a line
+pub first_word : (g : Test) (s t : Split ℕ (Unit {0})) (r : Option (Bor (List ℕ))) (x : Bor (List ℕ)) (line : List ℕ) → split_rest s ≡ line → split_done s ≡ false → CutsAt 32 g → split_steps g s r t → r ≡ Some x → split line ≡ x.now ∷ words_left t
 first_word g s t r x line rest done k h e = sym (λ i. cond (done i) [] (split (rest i))) ∙ word_taken g s t r x k h e
 
 -- a line is its words with spaces between
@@ -74,25 +84,17 @@ split_back xs w ws e = sym (join_with_byte-slice_split 32 xs) ∙ (ap (join_with
 
 -- and words without spaces are those of their line
 abbrev pub clean : List ℕ → Bool
-clean [] = true
-clean (c ∷ cs) = not (eqb c 32) && clean cs
+clean w = list_all (λ b. not (eqb b 32)) w
 
 abbrev pub Cleans : List (List ℕ) → Type 0
 Cleans [] = Unit {0}
 Cleans (w ∷ ws) = (clean w ≡ true) × Cleans ws
 
-split_clean : (w : List ℕ) → clean w ≡ true → split w ≡ w ∷ []
-split_clean [] e = refl
-split_clean (c ∷ cs) e =
-    let p = and_parts (not (eqb c 32)) (clean cs) e in
-    cond-false _ _ _ (not-true (eqb c 32) p.0) ∙ ap (onto_first c) (split_clean cs p.1)
-
-split_space : (w xs : List ℕ) → clean w ≡ true → split (w ++ (32 ∷ xs)) ≡ w ∷ split xs
-split_space [] xs e = refl
-split_space (c ∷ cs) xs e =
-    let p = and_parts (not (eqb c 32)) (clean cs) e in
-    cond-false _ _ _ (not-true (eqb c 32) p.0) ∙ ap (onto_first c) (split_space cs xs p.1)
+no_space : (w : List ℕ) → clean w ≡ true → All (λ b. eqb b 32 ≡ false) w
+no_space w e k d h = not-true _ (AllPass-from_list_all (λ b. not (eqb b 32)) w e k d h)
 
 pub split_spaces : (w : List ℕ) (ws : List (List ℕ)) → clean w ≡ true → Cleans ws → split (with_spaces w ws) ≡ w ∷ ws
-split_spaces w [] e es = split_clean w e
-split_spaces w (v ∷ ws) e es = split_space w (with_spaces v ws) e ∙ ap (λ vs. w ∷ vs) (split_spaces v ws es.0 es.1)
+split_spaces w [] e es = sym (split_parts w) ∙ slice_split_none (λ b. eqb b 32) w (no_space w e)
+split_spaces w (v ∷ ws) e es =
+    let xs = with_spaces v ws in
+    sym (split_parts (w ++ (32 ∷ xs))) ∙ (slice_split_at (λ b. eqb b 32) w 32 xs (no_space w e) refl ∙ ap (λ vs. w ∷ vs) (split_parts xs ∙ split_spaces v ws es.0 es.1))

@@ -26,6 +26,7 @@ pub fn read_line(line: &[u8], number: usize) -> Result<Call, Place>
     let text = words.next().ok_or(place)?;
     let verb = Word::Verb { text, place }.verb()?;
     let kinds = verb.kinds();
+    // Kept as it is: six operands at most, in a plain array, since there is no heap.
     let mut operands = [0; 6];
     for (i, kind) in kinds.iter().enumerate() {
         let place = Place::of_operand(number, i);
@@ -40,26 +41,26 @@ pub fn read_line(line: &[u8], number: usize) -> Result<Call, Place>
 mod tests {
     use super::*;
 
-    // The number of the first wrong word; none if the line reads as a call.
-    fn wrong_word(line: &[u8]) -> Option<usize> {
-        read_line(line, 1).err().map(|place| place.word)
+    // The number of the first wrong word; 0 if the line reads as a call.
+    fn wrong_word(line: &[u8]) -> usize {
+        read_line(line, 1).err().map_or(0, |place| place.word)
     }
 
     #[test]
     fn reads_a_call(rt: HostRuntime) {
-        assert_eq!(rt; wrong_word(b"drop 0 0"), None);
-        assert_eq!(rt; wrong_word(b"derive 0 1 2 16 65535 rwo"), None);
+        assert_eq!(rt; wrong_word(b"drop 0 0"), 0);
+        assert_eq!(rt; wrong_word(b"derive 0 1 2 16 65535 rwo"), 0);
     }
 
     #[test]
     fn refuses_a_leading_zero(rt: HostRuntime) {
-        assert_eq!(rt; wrong_word(b"grant 0 0 01"), Some(4));
+        assert_eq!(rt; wrong_word(b"grant 0 0 01"), 4);
     }
 
     #[test]
     fn refuses_an_empty_word(rt: HostRuntime) {
-        assert_eq!(rt; wrong_word(b"drop 0 0 "), Some(4));
-        assert_eq!(rt; wrong_word(b"drop  0 0"), Some(2));
-        assert_eq!(rt; wrong_word(b" "), Some(1));
+        assert_eq!(rt; wrong_word(b"drop 0 0 "), 4);
+        assert_eq!(rt; wrong_word(b"drop  0 0"), 2);
+        assert_eq!(rt; wrong_word(b" "), 1);
     }
 }

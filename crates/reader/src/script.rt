@@ -22,6 +22,7 @@ pub enum ReadError {
     Memory(AllocError),
 }
 
+// Kept as it is: a derived `From` has no contract, and the clause names the variant that `?` makes.
 impl From<AllocError> for ReadError {
     ghost from_gives = { λ x y. y ≡ MemoryError x };
 
@@ -75,10 +76,8 @@ mod tests {
 
     #[test]
     fn counts_empty_lines(rt: HostRuntime) -> Result<(), Fail> {
-        let entries = match read_script(rt.alloc(), b"\ndrop 0 0\n\nputb 0 0 0") {
-            Ok(entries) => entries,
-            Err(_) => return Err(Fail::new("the script is not read")),
-        };
+        let entries = read_script(rt.alloc(), b"\ndrop 0 0\n\nputb 0 0 0")
+            .map_err(|_| Fail::new("the script is not read"))?;
         assert!(rt; entries.len() == 2);
         assert!(rt; entries[0].line == 2 && entries[0].reading.is_ok());
         assert!(rt; entries[1].line == 4 && entries[1].reading.is_err());

@@ -7,6 +7,7 @@ use crate::place::Place;
 use crate::verb::{Kind, Verb, named_verb};
 
 // A word by what is expected at its place: a part of the script, with its place.
+// Kept as it is: the words are an enum whose cases borrow the script, by a rule of the project.
 #[derive(Clone, Copy, Debug, PartialEq, Eq)]
 pub enum Word<'a> {
     Verb { text: &'a [u8], place: Place },
