@@ -1,3 +1,4 @@
+mod Steps
 mod Numbers
 mod Spelling
 mod Splits

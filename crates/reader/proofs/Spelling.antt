@@ -1,25 +1,17 @@
 -- Reading permission letters.
-use Rattle.std.proofs.Common.{◌≡◌, ℕ, zero, suc, ◌+◌, ◌<◌, ◌≤◌, Bool, true, false, not, ◌&&◌, eqb, ltb, ◌⊎◌, List, [], ◌∷◌, ◌++◌, length, get_or, drop, Some, None, codes, Option, sym, refl, ap, ◌∙◌, inl, inr, ⊎_elim, arith}
-use Rattle.std.proofs.lemmas.List.{at_drop_more, at_drop_all, append-nil, append_assoc}
+use Rattle.std.proofs.Common.{◌≡◌, ℕ, zero, suc, ◌+◌, ◌<◌, ◌≤◌, Bool, true, false, not, eqb, ltb, ◌⊎◌, List, [], ◌∷◌, ◌++◌, length, get_or, Some, None, codes, Option, sym, refl, ap, ◌∙◌, inl, inr, arith}
+use Rattle.std.proofs.lemmas.List.{append-nil, append_assoc}
 use Rattle.std.specs.Str.{bytes_eq}
 use Rattle.std.specs.Cmp.Lexicographic.{same_text}
-use Rattle.std.proofs.lemmas.Bool.{agree_below_at, cond-true, cond-false, ltb-true, cases_Bool, cases_eq, and_parts, eqb-true, ne_eqb, not-true}
+use Rattle.std.proofs.lemmas.Bool.{agree_below_at, cond-true, cond-false, ltb-true, cases_Bool, eqb-true, ne_eqb, not-true}
 use Rattle.std.proofs.lemmas.Bool.Decides.{nat_tests}
 use Rattle.reader.specs.Steps.{letter_bit, with_bit, with_letter}
 use Rattle.reader.specs.Texts.{ReadsAs, letters_of, letters_from}
+use Rattle.reader.proofs.Steps.{steps_over, steps_none}
 
 -- the loop: each byte as a letter more, while that goes
-abbrev pub then_letter : Option ℕ → ℕ → Option ℕ
-then_letter None c = None
-then_letter (Some p) c = with_letter p c
-
 abbrev pub spelled : Option ℕ → List ℕ → Option ℕ
-spelled o [] = o
-spelled o (c ∷ cs) = spelled (then_letter o c) cs
-
-spelled_none : (cs : List ℕ) → spelled None cs ≡ None
-spelled_none [] = refl
-spelled_none (c ∷ cs) = spelled_none cs
+spelled = steps_over with_letter
 
 -- tests that compute
 abbrev is_some : ℕ → Option ℕ → Bool
@@ -87,22 +79,12 @@ spelled_is s [] q h e =
 spelled_is s (c ∷ cs) q h e = go (λ m k f. spelled_is m cs q k f) (with_letter s c) refl e
   where
     go : ((m : ℕ) → m ≤ 31 → spelled (Some m) cs ≡ Some q → (q ≤ 31) × (letters_from (codes "rwcgo") q ≡ letters_from (codes "rwcgo") m ++ cs)) → (o : Option ℕ) → with_letter s c ≡ o → spelled o cs ≡ Some q → (q ≤ 31) × (letters_from (codes "rwcgo") q ≡ letters_from (codes "rwcgo") s ++ (c ∷ cs))
-    go more None w f = absurd (let z : ◌≡◌ {A = ℕ} 0 1 = cc (sym f ∙ spelled_none cs) in omega arith)
+    go more None w f = absurd (let z : ◌≡◌ {A = ℕ} 0 1 = cc (sym f ∙ steps_none with_letter cs) in omega arith)
     go more (Some m) w f =
         let d = letter_is s c m w in
         let r = more m d.small f in
         let l : letters_from (codes "rwcgo") m ≡ letters_from (codes "rwcgo") s ++ (c ∷ []) = ap (letters_from (codes "rwcgo")) (sym d.value) ∙ one_more c d.bit s d.is d.above in
         (r.0, r.1 ∙ (ap (λ xs. xs ++ cs) l ∙ append_assoc (letters_from (codes "rwcgo") s) (c ∷ []) cs))
-
--- the loop's steps
-pub spelled_more : (s m i : ℕ) (bs : List ℕ) → i < length bs → with_letter s (get_or bs i 0) ≡ Some m → spelled (Some s) (drop i bs) ≡ spelled (Some m) (drop (i + 1) bs)
-spelled_more s m i bs h w = at_drop_more (spelled (Some s)) bs i 0 h ∙ ap (λ o. spelled o (drop (i + 1) bs)) w
-
-pub spelled_stop : (s i : ℕ) (bs : List ℕ) → i < length bs → with_letter s (get_or bs i 0) ≡ None → spelled (Some s) (drop i bs) ≡ None
-spelled_stop s i bs h w = at_drop_more (spelled (Some s)) bs i 0 h ∙ (ap (λ o. spelled o (drop (i + 1) bs)) w ∙ spelled_none (drop (i + 1) bs))
-
-pub spelled_all : (s i : ℕ) (bs : List ℕ) → length bs ≤ i → spelled (Some s) (drop i bs) ≡ Some s
-spelled_all s i bs h = at_drop_all (spelled (Some s)) bs i h
 
 pub small_letter : (s c m : ℕ) → with_letter s c ≡ Some m → m ≤ 31
 small_letter s c m e = (letter_is s c m e).small

@@ -1,5 +1,5 @@
 -- The words of a line.
-use Rattle.std.proofs.Common.{◌≡◌, ℕ, Bool, true, false, cond, not, ◌&&◌, eqb, List, [], ◌∷◌, ◌++◌, length, Some, None, Option, sym, refl, ap, ◌∙◌, inl, inr, arith}
+use Rattle.std.proofs.Common.{◌≡◌, ℕ, Bool, true, false, cond, not, eqb, List, [], ◌∷◌, ◌++◌, length, Some, None, Option, sym, refl, ap, ◌∙◌, arith}
 use Rattle.std.specs.List as L
 use Rattle.std.specs.List.{slice_split, join_with_byte, list_all, IsFirstMatchOrLen, All}
 use Rattle.std.specs.declared.slice.Split.{Split}
@@ -13,7 +13,7 @@ use denote.Param.Members.{Mut}
 use Rattle.std.proofs.lemmas.List.Sums.{AllPass-from_list_all}
 use Rattle.std.proofs.lemmas.List.Splits.{slice_split_none, slice_split_at, join_with_byte-slice_split}
 use Rattle.std.proofs.lemmas.Grind.{common_steps}
-use Rattle.std.proofs.lemmas.Bool.{cond-true, cond-false, cases_Bool, and_parts, eqb-true, not-true}
+use Rattle.std.proofs.lemmas.Bool.{not-true}
 use Rattle.reader.specs.Calls.{with_spaces}
 use Rattle.reader.specs.Lines.{split, onto_first}
 

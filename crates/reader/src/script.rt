@@ -76,8 +76,9 @@ mod tests {
 
     #[test]
     fn counts_empty_lines(rt: HostRuntime) -> Result<(), Fail> {
-        let entries = read_script(rt.alloc(), b"\ndrop 0 0\n\nputb 0 0 0")
-            .map_err(|_| Fail::new("the script is not read"))?;
+        let entries = read_script(rt.alloc(), b"\ndrop 0 0\n\nputb 0 0 0").map_err(|_| Fail::new(
+            "the script is not read",
+        ))?;
         assert!(rt; entries.len() == 2);
         assert!(rt; entries[0].line == 2 && entries[0].reading.is_ok());
         assert!(rt; entries[1].line == 4 && entries[1].reading.is_err());
