@@ -5,8 +5,8 @@ use crate::place::Place;
 use crate::word::Word;
 use call::Call;
 
-// Nothing where a line has no word more, or the place of a word that is too many.
-fn end(word: Option<&[u8]>, place: Place) -> Result<(), Place>
+// Nothing if a line has no more words, or the place of a word that is too many.
+fn no_more(word: Option<&[u8]>, place: Place) -> Result<(), Place>
     ensures ok { OnOk result (word.entry ≡ None) }
     ensures err { IfErr result (λ at. (at ≡ place) × (is_some word.entry ≡ true)) }
 {
@@ -33,7 +33,7 @@ pub fn read_line(line: &[u8], number: usize) -> Result<Call, Place>
         let text = words.next().ok_or(place)?;
         operands[i] = Word::operand(*kind, text, place).value()?;
     }
-    end(words.next(), Place::of_operand(number, kinds.len()))?;
+    no_more(words.next(), Place::of_operand(number, kinds.len()))?;
     Ok(verb.call(&operands))
 }
 

@@ -72,15 +72,15 @@ loop-i-preserved c =
     let a = again line v i ns text.now _ _ x words c.loop-i.invariant.fit (search rules) (search rules) (search rules) read in
     record { words = a.0; fit = a.1; six = search rules }
 
-pub returns-in_err-end : goal.returns-in_err-end
-returns-in_err-end c =
+pub returns-in_err-no_more : goal.returns-in_err-no_more
+returns-in_err-no_more c =
     let line = c.args.line.now in
     let v = c.in_ok-verb.verb in
     let i = c.loop-i.i in
     let ns = c.loop-i.operands in
-    let p = err_from_is_err_and c.from_residual-in_err-end.result c.from_residual-in_err-end.ensures.1 in
+    let p = err_from_is_err_and c.from_residual-in_err-no_more.result c.from_residual-in_err-no_more.ensures.1 in
     let e : i ≡ length (kinds_of v) = search rules in
-    let known = c.in_err-end.ensures.err in
+    let known = c.in_err-no_more.ensures.err in
     let more = one_word _ _ _ _ (λ x b q k. search (rules, tests)) c.next-2.ensures.steps known.1 in
     let words = c.loop-i.invariant.words ∙ ap (so_far v i ns) more.1 in
     let word : c.of_operand.result.word ≡ i + 2 = search rules in
@@ -95,7 +95,7 @@ returns c =
     let v = c.in_ok-verb.verb in
     let i = c.loop-i.i in
     let ns = c.loop-i.operands in
-    let words = c.loop-i.invariant.words ∙ ap (so_far v i ns) (no_words _ _ _ _ c.next-2.ensures.steps c.in_ok-end.ensures.ok) in
+    let words = c.loop-i.invariant.words ∙ ap (so_far v i ns) (no_words _ _ _ _ c.next-2.ensures.steps c.in_ok-no_more.ensures.ok) in
     let k : length (kinds_of v) ≡ i = search rules in
     record {
       law = whole line v i (take i ns) c.call.result words c.loop-i.invariant.fit (omega arith) c.call.ensures.verb (c.call.ensures.operands ∙ ap (λ m. take m ns) k);
