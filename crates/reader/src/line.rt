@@ -26,7 +26,7 @@ pub fn read_line(line: &[u8], number: usize) -> Result<Call, Place>
     let text = words.next().ok_or(place)?;
     let verb = Word::Verb { text, place }.verb()?;
     let kinds = verb.kinds();
-    // Kept as it is: six operands at most, in a plain array, since there is no heap.
+    // Kept as it is: a plain array of six, the most operands of a verb, since the project allows no heap here.
     let mut operands = [0; 6];
     for (i, kind) in kinds.iter().enumerate() {
         let place = Place::of_operand(number, i);
