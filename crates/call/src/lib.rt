@@ -1,7 +1,7 @@
 // The calls that compartments make. Operands are any numbers: the machine checks them.
 #![tactic(auto)]
 
-#[derive(Clone, Copy)]
+#[derive(Clone, Copy, Debug, PartialEq, Eq)]
 pub enum Call {
     Grant {
         compartment: u32,

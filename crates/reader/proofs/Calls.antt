@@ -1,8 +1,11 @@
 -- Words against calls: which words some call begins with, and that words tell the call.
-use Rattle.std.proofs.Common.{◌≡◌, ℕ, zero, suc, ◌<◌, ◌≤◌, true, cond, not, eqb, List, [], ◌∷◌, ◌++◌, length, get_or, take, decimal, sym, refl, ap, ◌∙◌, subst, arith}
+use Rattle.std.proofs.Common.{◌≡◌, ℕ, zero, suc, ◌<◌, ◌≤◌, true, cond, not, eqb, map, List, [], ◌∷◌, ◌++◌, length, get_or, take, decimal, sym, refl, ap, ◌∙◌, subst, arith}
 use Rattle.std.specs.Str.{all_ascii_digits}
 use Rattle.std.specs.Char.{is_ascii_digit}
-use Rattle.std.proofs.lemmas.Bool.{and_parts, and_from}
+use Rattle.std.specs.Str.{bytes_eq}
+use Rattle.std.specs.List.{range_with_len}
+use Rattle.std.proofs.lemmas.List.FromFn.{fill_by_all}
+use Rattle.std.proofs.lemmas.Bool.{agree_below_at, and_parts, and_from}
 use Rattle.std.proofs.lemmas.Fmt.{digits_decimal}
 use Rattle.std.proofs.lemmas.Bool.Decides.{nat_tests}
 use Rattle.call.specs.declared.Call.{Call}
@@ -15,8 +18,7 @@ use Rattle.reader.specs.Texts.{letters_of}
 use Rattle.reader.specs.Calls.{name_of, kinds_of, greatest_of, operand_text, operand_texts, WithinKinds, verb_of, operands_of, WritableCall, words_of, text_of}
 use Rattle.reader.specs.Lines.{split, Begins}
 use Rattle.reader.proofs.Numbers.{own, decimal_once}
-use Rattle.reader.proofs.Spelling.{below_at, same_list, letters_once}
-use Rattle.reader.proofs.Short.{list2, list3, list4, list6}
+use Rattle.reader.proofs.Spelling.{letters_once}
 use Rattle.reader.proofs.Splits.{clean, Cleans, split_spaces}
 
 -- no word of a call has a space
@@ -30,7 +32,7 @@ clean_digits (c ∷ cs) e =
 
 clean_text : (k : Kind) (n : ℕ) → n ≤ greatest_of k → clean (operand_text k n) ≡ true
 clean_text Number n h = clean_digits (decimal n) (digits_decimal own n (omega arith))
-clean_text Permissions n h = below_at (λ m. clean (letters_of m)) 32 n refl (omega arith)
+clean_text Permissions n h = agree_below_at (λ m. clean (letters_of m)) (λ _. true) 32 n refl (omega arith)
 
 clean_texts : (ks : List Kind) (ns : List ℕ) → WithinKinds ks ns → Cleans (operand_texts ks ns)
 clean_texts [] [] f = tt
@@ -54,13 +56,13 @@ split_text line c f e = ap split e ∙ split_spaces (name_of (verb_of c)) (opera
 -- a name tells its verb
 abbrev named : List ℕ → Verb
 named bs =
-    (cond (same_list bs (name_of V.Grant)) V.Grant
-    (cond (same_list bs (name_of V.Derive)) V.Derive
-    (cond (same_list bs (name_of V.Getb)) V.Getb
-    (cond (same_list bs (name_of V.Putb)) V.Putb
-    (cond (same_list bs (name_of V.Putc)) V.Putc
-    (cond (same_list bs (name_of V.Getc)) V.Getc
-    (cond (same_list bs (name_of V.Give)) V.Give V.Drop)))))))
+    (cond (bytes_eq bs (name_of V.Grant)) V.Grant
+    (cond (bytes_eq bs (name_of V.Derive)) V.Derive
+    (cond (bytes_eq bs (name_of V.Getb)) V.Getb
+    (cond (bytes_eq bs (name_of V.Putb)) V.Putb
+    (cond (bytes_eq bs (name_of V.Putc)) V.Putc
+    (cond (bytes_eq bs (name_of V.Getc)) V.Getc
+    (cond (bytes_eq bs (name_of V.Give)) V.Give V.Drop)))))))
 
 named_name : (v : Verb) → named (name_of v) ≡ v
 named_name V.Grant = refl
@@ -150,15 +152,18 @@ from_verb V.Getc ns = refl
 from_verb V.Give ns = refl
 from_verb V.Drop ns = refl
 
+each_element : (ns : List ℕ) (n : ℕ) → length ns ≡ n → map (λ k. get_or ns k 0) (range_with_len 0 n) ≡ ns
+each_element ns n l = sym (fill_by_all (λ k. get_or ns k 0) ns n 0 l (λ k h. refl))
+
 from_operands : (v : Verb) (ns : List ℕ) → length ns ≡ length (kinds_of v) → operands_of (call_from v ns) ≡ ns
-from_operands V.Grant ns l = sym (list3 ns _ _ _ l refl refl refl)
-from_operands V.Derive ns l = sym (list6 ns _ _ _ _ _ _ l refl refl refl refl refl refl)
-from_operands V.Getb ns l = sym (list3 ns _ _ _ l refl refl refl)
-from_operands V.Putb ns l = sym (list4 ns _ _ _ _ l refl refl refl refl)
-from_operands V.Putc ns l = sym (list4 ns _ _ _ _ l refl refl refl refl)
-from_operands V.Getc ns l = sym (list4 ns _ _ _ _ l refl refl refl refl)
-from_operands V.Give ns l = sym (list4 ns _ _ _ _ l refl refl refl refl)
-from_operands V.Drop ns l = sym (list2 ns _ _ l refl refl)
+from_operands V.Grant ns l = each_element ns 3 l
+from_operands V.Derive ns l = each_element ns 6 l
+from_operands V.Getb ns l = each_element ns 3 l
+from_operands V.Putb ns l = each_element ns 4 l
+from_operands V.Putc ns l = each_element ns 4 l
+from_operands V.Getc ns l = each_element ns 4 l
+from_operands V.Give ns l = each_element ns 4 l
+from_operands V.Drop ns l = each_element ns 2 l
 
 -- a call is that of its verb and operands
 pub from_parts : (c : Call) → call_from (verb_of c) (operands_of c) ≡ c

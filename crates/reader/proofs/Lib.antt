@@ -1,7 +1,6 @@
-mod Scans
+mod Steps
 mod Numbers
 mod Spelling
-mod Short
 mod Splits
 mod Calls
 mod Stopping

@@ -1,14 +1,14 @@
 -- Reading a decimal number.
-use Rattle.std.proofs.Common.{◌≡◌, ℕ, zero, suc, ◌+◌, ◌-◌, ◌*◌, ◌<◌, ◌≤◌, true, false, leb, List, [], ◌∷◌, length, get_or, drop, Some, None, decimal, Option, sym, refl, ap, ◌∙◌, inl, inr, arith, rules}
+use Rattle.std.proofs.Common.{◌≡◌, ℕ, zero, suc, ◌+◌, ◌-◌, ◌*◌, ◌<◌, ◌≤◌, true, false, leb, List, [], ◌∷◌, length, get_or, Some, None, decimal, Option, sym, refl, ap, ◌∙◌, inl, inr, arith, rules}
 use Rattle.std.specs.Str.{all_ascii_digits}
 use Rattle.std.specs.Char.{is_ascii_digit}
-use Rattle.std.proofs.lemmas.List.{at_drop_more, at_drop_all}
 use Rattle.std.proofs.lemmas.Bool.{cond-true, cond-false, cases_Bool, and_parts, and_from}
 use Rattle.std.proofs.lemmas.Str.Parse.{IsNumeralModel, numerals_by_fold, tells_all_ascii_digits}
 use Rattle.std.proofs.lemmas.Fmt.{decimal-digits_value, digits_decimal, digits_value-decimal, decimal_nonempty, first_decimal, decimal_digit}
 use Rattle.std.proofs.lemmas.Bool.Decides.{nat_tests}
 use Rattle.reader.specs.Steps.{with_digit, is_plain}
 use Rattle.reader.specs.Texts.{ReadsAs}
+use Rattle.reader.proofs.Steps.{steps_over, steps_none}
 
 -- the value of digits after a number
 abbrev pub folded : ℕ → List ℕ → ℕ
@@ -16,17 +16,8 @@ folded n [] = n
 folded n (c ∷ cs) = folded (n * 10 + (c - 48)) cs
 
 -- the loop: each byte as a digit more, while that goes
-abbrev pub then_digit : Option ℕ → ℕ → Option ℕ
-then_digit None c = None
-then_digit (Some n) c = with_digit n c
-
 abbrev pub counted : Option ℕ → List ℕ → Option ℕ
-counted o [] = o
-counted o (c ∷ cs) = counted (then_digit o c) cs
-
-counted_none : (cs : List ℕ) → counted None cs ≡ None
-counted_none [] = refl
-counted_none (c ∷ cs) = counted_none cs
+counted = steps_over with_digit
 
 pub own : IsNumeralModel (λ ds. all_ascii_digits ds ≡ true) (folded 0)
 own = numerals_by_fold _ tells_all_ascii_digits folded (search rules)
@@ -71,21 +62,11 @@ counted_is n [] q h e = let k : n ≡ q = cc in (refl, k, omega arith)
 counted_is n (c ∷ cs) q h e = go (λ m s f. counted_is m cs q s f) (with_digit n c) refl e
   where
     go : ((m : ℕ) → m ≤ 65535 → counted (Some m) cs ≡ Some q → (all_ascii_digits cs ≡ true) × (folded m cs ≡ q) × (q ≤ 65535)) → (o : Option ℕ) → with_digit n c ≡ o → counted o cs ≡ Some q → (all_ascii_digits (c ∷ cs) ≡ true) × (folded n (c ∷ cs) ≡ q) × (q ≤ 65535)
-    go more None w f = absurd (let z : ◌≡◌ {A = ℕ} 0 1 = cc (sym f ∙ counted_none cs) in omega arith)
+    go more None w f = absurd (let z : ◌≡◌ {A = ℕ} 0 1 = cc (sym f ∙ steps_none with_digit cs) in omega arith)
     go more (Some m) w f =
         let d = digit_is n c m w in
         let r = more m d.small f in
         (and_from _ _ d.digit r.0, ap (λ k. folded k cs) d.value ∙ r.1, r.2)
-
--- the loop's steps
-pub counted_more : (n m i : ℕ) (bs : List ℕ) → i < length bs → with_digit n (get_or bs i 0) ≡ Some m → counted (Some n) (drop i bs) ≡ counted (Some m) (drop (i + 1) bs)
-counted_more n m i bs h w = at_drop_more (counted (Some n)) bs i 0 h ∙ ap (λ o. counted o (drop (i + 1) bs)) w
-
-pub counted_stop : (n i : ℕ) (bs : List ℕ) → i < length bs → with_digit n (get_or bs i 0) ≡ None → counted (Some n) (drop i bs) ≡ None
-counted_stop n i bs h w = at_drop_more (counted (Some n)) bs i 0 h ∙ (ap (λ o. counted o (drop (i + 1) bs)) w ∙ counted_none (drop (i + 1) bs))
-
-pub counted_all : (n i : ℕ) (bs : List ℕ) → length bs ≤ i → counted (Some n) (drop i bs) ≡ Some n
-counted_all n i bs h = at_drop_all (counted (Some n)) bs i h
 
 pub small_digit : (n c m : ℕ) → with_digit n c ≡ Some m → m ≤ 65535
 small_digit n c m e = (digit_is n c m e).small

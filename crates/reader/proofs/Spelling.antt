@@ -1,50 +1,19 @@
 -- Reading permission letters.
-use Rattle.std.proofs.Common.{◌≡◌, ℕ, zero, suc, ◌+◌, ◌<◌, ◌≤◌, Bool, true, false, not, ◌&&◌, eqb, ltb, ◌⊎◌, List, [], ◌∷◌, ◌++◌, length, get_or, drop, Some, None, codes, Option, sym, refl, ap, ◌∙◌, inl, inr, ⊎_elim, arith}
-use Rattle.std.proofs.lemmas.List.{at_drop_more, at_drop_all, append-nil, append_assoc}
-use Rattle.std.proofs.lemmas.Bool.{cond-true, cond-false, ltb-true, cases_Bool, cases_eq, and_parts, eqb-true, ne_eqb, not-true}
+use Rattle.std.proofs.Common.{◌≡◌, ℕ, zero, suc, ◌+◌, ◌<◌, ◌≤◌, Bool, true, false, not, eqb, ltb, ◌⊎◌, List, [], ◌∷◌, ◌++◌, length, get_or, Some, None, codes, Option, sym, refl, ap, ◌∙◌, inl, inr, arith}
+use Rattle.std.proofs.lemmas.List.{append-nil, append_assoc}
+use Rattle.std.specs.Str.{bytes_eq}
+use Rattle.std.specs.Cmp.Lexicographic.{same_text}
+use Rattle.std.proofs.lemmas.Bool.{agree_below_at, cond-true, cond-false, ltb-true, cases_Bool, eqb-true, ne_eqb, not-true}
 use Rattle.std.proofs.lemmas.Bool.Decides.{nat_tests}
-use Rattle.reader.specs.Steps.{letter_bit, with_letter}
+use Rattle.reader.specs.Steps.{letter_bit, with_bit, with_letter}
 use Rattle.reader.specs.Texts.{ReadsAs, letters_of, letters_from}
+use Rattle.reader.proofs.Steps.{steps_over, steps_none}
 
 -- the loop: each byte as a letter more, while that goes
-abbrev pub then_letter : Option ℕ → ℕ → Option ℕ
-then_letter None c = None
-then_letter (Some p) c = with_letter p c
-
 abbrev pub spelled : Option ℕ → List ℕ → Option ℕ
-spelled o [] = o
-spelled o (c ∷ cs) = spelled (then_letter o c) cs
+spelled = steps_over with_letter
 
-spelled_none : (cs : List ℕ) → spelled None cs ≡ None
-spelled_none [] = refl
-spelled_none (c ∷ cs) = spelled_none cs
-
--- tests that compute: of each number below n
-abbrev pub each_below : (ℕ → Bool) → ℕ → Bool
-each_below p zero = true
-each_below p (suc n) = p n && each_below p n
-
-pub below_at : (p : ℕ → Bool) (n k : ℕ) → each_below p n ≡ true → k < n → p k ≡ true
-below_at p zero k e h = absurd (omega arith)
-below_at p (suc n) k e h =
-    let both = and_parts (p n) (each_below p n) e in
-    ⊎_elim (λ (q : k ≡ n). rw q both.0) (λ (q : k ≡ n → ⊥). below_at p n k both.1 (omega arith)) (cases_eq k n)
-
-abbrev pub same_list : List ℕ → List ℕ → Bool
-same_list [] [] = true
-same_list [] (y ∷ ys) = false
-same_list (x ∷ xs) [] = false
-same_list (x ∷ xs) (y ∷ ys) = eqb x y && same_list xs ys
-
-same_true : (xs ys : List ℕ) → same_list xs ys ≡ true → xs ≡ ys
-same_true [] [] e = refl
-same_true [] (y ∷ ys) e = absurd (let z : ◌≡◌ {A = ℕ} 0 1 = cc in omega arith)
-same_true (x ∷ xs) [] e = absurd (let z : ◌≡◌ {A = ℕ} 0 1 = cc in omega arith)
-same_true (x ∷ xs) (y ∷ ys) e =
-    let both = and_parts (eqb x y) (same_list xs ys) e in
-    let p = eqb-true x y both.0 in
-    let q = same_true xs ys both.1 in cc
-
+-- tests that compute
 abbrev is_some : ℕ → Option ℕ → Bool
 is_some q (Some p) = eqb p q
 is_some q None = false
@@ -55,45 +24,53 @@ some_true q None e = absurd (let z : ◌≡◌ {A = ℕ} 0 1 = cc in omega arith
 
 -- the 31 numbers from 1 on read back
 spelled_letters : (p : ℕ) → p < 31 → spelled (Some 0) (letters_of (suc p)) ≡ Some (suc p)
-spelled_letters p h = some_true (suc p) (spelled (Some 0) (letters_of (suc p))) (below_at (λ n. is_some (suc n) (spelled (Some 0) (letters_of (suc n)))) 31 p refl h)
+spelled_letters p h = some_true (suc p) (spelled (Some 0) (letters_of (suc p))) (agree_below_at (λ n. is_some (suc n) (spelled (Some 0) (letters_of (suc n)))) (λ _. true) 31 p refl h)
 
 -- one letter more: 31 cases computed
 abbrev lengthens : ℕ → ℕ → ℕ → Bool
-lengthens c b s = same_list (letters_from (codes "rwcgo") (s + b)) (letters_from (codes "rwcgo") s ++ (c ∷ []))
+lengthens c b s = bytes_eq (letters_from (codes "rwcgo") (s + b)) (letters_from (codes "rwcgo") s ++ (c ∷ []))
 
-letter_cases : (c : ℕ) → (letter_bit c ≡ 0) ⊎ (((c ≡ 114) × (letter_bit c ≡ 1)) ⊎ (((c ≡ 119) × (letter_bit c ≡ 2)) ⊎ (((c ≡ 99) × (letter_bit c ≡ 4)) ⊎ (((c ≡ 103) × (letter_bit c ≡ 8)) ⊎ ((c ≡ 111) × (letter_bit c ≡ 16))))))
-letter_cases c = grind (arith, nat_tests)
+some_inj : (a b : ℕ) → Some a ≡ Some b → a ≡ b
+some_inj a b e = cc
 
-one_more : (c s : ℕ) → s < letter_bit c → letters_from (codes "rwcgo") (s + letter_bit c) ≡ letters_from (codes "rwcgo") s ++ (c ∷ [])
-one_more c s h = same_true _ _ (
-    elim (letter_cases c) [
-      | inl z ↦ absurd (omega arith)
-      | inr (inl p) ↦ rw p.0 (below_at (lengthens 114 1) 1 s refl (omega arith))
-      | inr (inr (inl p)) ↦ rw p.0 (below_at (lengthens 119 2) 2 s refl (omega arith))
-      | inr (inr (inr (inl p))) ↦ rw p.0 (below_at (lengthens 99 4) 4 s refl (omega arith))
-      | inr (inr (inr (inr (inl p)))) ↦ rw p.0 (below_at (lengthens 103 8) 8 s refl (omega arith))
-      | inr (inr (inr (inr (inr p)))) ↦ rw p.0 (below_at (lengthens 111 16) 16 s refl (omega arith))
-    ])
+letter_cases : (c b : ℕ) → letter_bit c ≡ Some b → ((c ≡ 114) × (b ≡ 1)) ⊎ (((c ≡ 119) × (b ≡ 2)) ⊎ (((c ≡ 99) × (b ≡ 4)) ⊎ (((c ≡ 103) × (b ≡ 8)) ⊎ ((c ≡ 111) × (b ≡ 16)))))
+letter_cases c b e = grind (arith, nat_tests)
+
+one_more : (c b s : ℕ) → letter_bit c ≡ Some b → s < b → letters_from (codes "rwcgo") (s + b) ≡ letters_from (codes "rwcgo") s ++ (c ∷ [])
+one_more c b s e h = same_text _ _ (sym (
+    elim (letter_cases c b e) [
+      | inl p ↦ rw (p.0, p.1) (agree_below_at (lengthens 114 1) (λ _. true) 1 s refl (omega arith))
+      | inr (inl p) ↦ rw (p.0, p.1) (agree_below_at (lengthens 119 2) (λ _. true) 2 s refl (omega arith))
+      | inr (inr (inl p)) ↦ rw (p.0, p.1) (agree_below_at (lengthens 99 4) (λ _. true) 4 s refl (omega arith))
+      | inr (inr (inr (inl p))) ↦ rw (p.0, p.1) (agree_below_at (lengthens 103 8) (λ _. true) 8 s refl (omega arith))
+      | inr (inr (inr (inr p))) ↦ rw (p.0, p.1) (agree_below_at (lengthens 111 16) (λ _. true) 16 s refl (omega arith))
+    ]))
 
 -- what a letter more tells
 pub record LetterMore (s c m : ℕ) : Type 0 where
-  pub above : s < letter_bit c
-  pub value : s + letter_bit c ≡ m
+  pub bit : ℕ
+  pub is : letter_bit c ≡ Some bit
+  pub above : s < bit
+  pub value : s + bit ≡ m
   pub small : m ≤ 31
 
-letter_is : (s c m : ℕ) → with_letter s c ≡ Some m → LetterMore s c m
-letter_is s c m e =
-    elim (cases_Bool (ltb s (letter_bit c))) [
+bit_is : (s c m : ℕ) (o : Option ℕ) → letter_bit c ≡ o → with_bit s o ≡ Some m → LetterMore s c m
+bit_is s c m None w e = absurd (let z : ◌≡◌ {A = ℕ} 0 1 = cc in omega arith)
+bit_is s c m (Some b) w e =
+    elim (cases_Bool (ltb s b)) [
       | inr x ↦ absurd (let z : ◌≡◌ {A = ℕ} 0 1 = cc (sym e ∙ cond-false _ _ _ x) in omega arith)
       | inl x ↦
-          let v : s + letter_bit c ≡ m = cc (sym e ∙ cond-true _ _ _ x) in
-          let l = ltb-true s (letter_bit c) x in
-          let b : letter_bit c ≤ 16 = most c in
-          record { above = l; value = v; small = omega arith }
+          let v : s + b ≡ m = cc (sym e ∙ cond-true _ _ _ x) in
+          let l = ltb-true s b x in
+          let k : b ≤ 16 = most (letter_cases c b w) in
+          record { bit = b; is = w; above = l; value = v; small = omega arith }
     ]
   where
-    most : (c : ℕ) → letter_bit c ≤ 16
-    most c = grind (arith, nat_tests)
+    most : ((c ≡ 114) × (b ≡ 1)) ⊎ (((c ≡ 119) × (b ≡ 2)) ⊎ (((c ≡ 99) × (b ≡ 4)) ⊎ (((c ≡ 103) × (b ≡ 8)) ⊎ ((c ≡ 111) × (b ≡ 16))))) → b ≤ 16
+    most h = grind arith
+
+letter_is : (s c m : ℕ) → with_letter s c ≡ Some m → LetterMore s c m
+letter_is s c m e = bit_is s c m (letter_bit c) refl e
 
 spelled_is : (s : ℕ) (bs : List ℕ) (q : ℕ) → s ≤ 31 → spelled (Some s) bs ≡ Some q → (q ≤ 31) × (letters_from (codes "rwcgo") q ≡ letters_from (codes "rwcgo") s ++ bs)
 spelled_is s [] q h e =
@@ -102,22 +79,12 @@ spelled_is s [] q h e =
 spelled_is s (c ∷ cs) q h e = go (λ m k f. spelled_is m cs q k f) (with_letter s c) refl e
   where
     go : ((m : ℕ) → m ≤ 31 → spelled (Some m) cs ≡ Some q → (q ≤ 31) × (letters_from (codes "rwcgo") q ≡ letters_from (codes "rwcgo") m ++ cs)) → (o : Option ℕ) → with_letter s c ≡ o → spelled o cs ≡ Some q → (q ≤ 31) × (letters_from (codes "rwcgo") q ≡ letters_from (codes "rwcgo") s ++ (c ∷ cs))
-    go more None w f = absurd (let z : ◌≡◌ {A = ℕ} 0 1 = cc (sym f ∙ spelled_none cs) in omega arith)
+    go more None w f = absurd (let z : ◌≡◌ {A = ℕ} 0 1 = cc (sym f ∙ steps_none with_letter cs) in omega arith)
     go more (Some m) w f =
         let d = letter_is s c m w in
         let r = more m d.small f in
-        let l : letters_from (codes "rwcgo") m ≡ letters_from (codes "rwcgo") s ++ (c ∷ []) = ap (letters_from (codes "rwcgo")) (sym d.value) ∙ one_more c s d.above in
+        let l : letters_from (codes "rwcgo") m ≡ letters_from (codes "rwcgo") s ++ (c ∷ []) = ap (letters_from (codes "rwcgo")) (sym d.value) ∙ one_more c d.bit s d.is d.above in
         (r.0, r.1 ∙ (ap (λ xs. xs ++ cs) l ∙ append_assoc (letters_from (codes "rwcgo") s) (c ∷ []) cs))
-
--- the loop's steps
-pub spelled_more : (s m i : ℕ) (bs : List ℕ) → i < length bs → with_letter s (get_or bs i 0) ≡ Some m → spelled (Some s) (drop i bs) ≡ spelled (Some m) (drop (i + 1) bs)
-spelled_more s m i bs h w = at_drop_more (spelled (Some s)) bs i 0 h ∙ ap (λ o. spelled o (drop (i + 1) bs)) w
-
-pub spelled_stop : (s i : ℕ) (bs : List ℕ) → i < length bs → with_letter s (get_or bs i 0) ≡ None → spelled (Some s) (drop i bs) ≡ None
-spelled_stop s i bs h w = at_drop_more (spelled (Some s)) bs i 0 h ∙ (ap (λ o. spelled o (drop (i + 1) bs)) w ∙ spelled_none (drop (i + 1) bs))
-
-pub spelled_all : (s i : ℕ) (bs : List ℕ) → length bs ≤ i → spelled (Some s) (drop i bs) ≡ Some s
-spelled_all s i bs h = at_drop_all (spelled (Some s)) bs i h
 
 pub small_letter : (s c m : ℕ) → with_letter s c ≡ Some m → m ≤ 31
 small_letter s c m e = (letter_is s c m e).small
@@ -141,7 +108,7 @@ letters_none bs e dash (suc m) h t =
 pub letters_empty : (bs : List ℕ) → length bs ≡ 0 → ReadsAs letters_of 31 bs None
 letters_empty bs e m h t =
     let z : length (letters_of m) ≡ 0 = ap length (sym t) ∙ e in
-    let k : eqb (length (letters_of m)) 0 ≡ false = not-true _ (below_at (λ n. not (eqb (length (letters_of n)) 0)) 32 m refl (omega arith)) in
+    let k : eqb (length (letters_of m)) 0 ≡ false = not-true _ (agree_below_at (λ n. not (eqb (length (letters_of n)) 0)) (λ _. true) 32 m refl (omega arith)) in
     grind (arith, nat_tests)
 
 pub letters_dash : (bs : List ℕ) → length bs ≡ 1 → get_or bs 0 0 ≡ 45 → ReadsAs letters_of 31 bs (Some 0)

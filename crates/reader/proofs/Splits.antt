@@ -1,106 +1,100 @@
 -- The words of a line.
-use Rattle.std.proofs.Common.{◌≡◌, ℕ, suc, ◌+◌, ◌-◌, ◌<◌, ◌≤◌, Bool, true, false, cond, not, ◌&&◌, eqb, leb, List, [], ◌∷◌, ◌++◌, length, take, drop, sym, refl, ap, ◌∙◌, inl, inr, arith}
-use Rattle.std.proofs.lemmas.List.{length-drop, drop-drop, take_rest, length-take-le}
-use Rattle.std.proofs.lemmas.Bool.{cond-true, cond-false, cases_Bool, and_parts, eqb-true, not-true}
-use Rattle.std.proofs.lemmas.Bool.Decides.{nat_tests}
+use Rattle.std.proofs.Common.{◌≡◌, ℕ, Bool, true, false, cond, not, eqb, List, [], ◌∷◌, ◌++◌, length, Some, None, Option, sym, refl, ap, ◌∙◌, arith}
+use Rattle.std.specs.List as L
+use Rattle.std.specs.List.{slice_split, join_with_byte, list_all, IsFirstMatchOrLen, All}
+use Rattle.std.specs.declared.slice.Split.{Split}
+use Rattle.std.specs.Slice.Iter.{split_rest, split_done, split_steps}
+use Rattle.std.specs.Bool.{MatchBool}
+use Rattle.std.specs.Fn.{ComputesKey, CalledAt}
+use Rattle.std.proofs.lemmas.Fn.{always_returns_same}
+use Rattle.std.specs.Option.{is_some}
+use denote.Ref.{Bor}
+use denote.Param.Members.{Mut}
+use Rattle.std.proofs.lemmas.List.Sums.{AllPass-from_list_all}
+use Rattle.std.proofs.lemmas.List.Splits.{slice_split_none, slice_split_at, join_with_byte-slice_split}
+use Rattle.std.proofs.lemmas.Grind.{common_steps}
+use Rattle.std.proofs.lemmas.Bool.{not-true}
 use Rattle.reader.specs.Calls.{with_spaces}
 use Rattle.reader.specs.Lines.{split, onto_first}
-use Rattle.reader.specs.Steps.{length_before, words_from, WordAt}
 
-split_cut : (xs : List ℕ) → split xs ≡ take (length_before 32 xs) xs ∷ words_from xs (suc (length_before 32 xs))
-split_cut [] = refl
-split_cut (c ∷ cs) = go (eqb c 32) refl (split_cut cs)
+-- what a closure that tests bytes may answer, and that it is true just at one byte
+abbrev pub Test : Type 1
+Test = Mut (Unit {0}) (Bor ℕ × Unit {0}) Bool
+
+abbrev pub CutsAt : ℕ → Test → Type 0
+CutsAt stop g = (y : ℕ) (b : Bool) (q : Unit {0}) → CalledAt g tt y b q → (q ≡ tt) × (b ≡ eqb y stop)
+
+pub onto_same : (c : ℕ) (ws : List (List ℕ)) → L.onto_first c ws ≡ onto_first c ws
+onto_same c [] = refl
+onto_same c (w ∷ ws) = refl
+
+-- the parts between spaces, as std cuts them
+pub split_parts : (xs : List ℕ) → slice_split (λ b. eqb b 32) xs ≡ split xs
+split_parts [] = refl
+split_parts (c ∷ cs) = go (eqb c 32) refl (split_parts cs)
   where
-    go : (b : Bool) → eqb c 32 ≡ b → split cs ≡ take (length_before 32 cs) cs ∷ words_from cs (suc (length_before 32 cs)) → split (c ∷ cs) ≡ take (length_before 32 (c ∷ cs)) (c ∷ cs) ∷ words_from (c ∷ cs) (suc (length_before 32 (c ∷ cs)))
-    go true e h =
-        let k : leb 1 (suc (length cs)) ≡ true = grind (arith, nat_tests) in
-        rw (e, k) refl
-    go false e h =
-        let k : leb (suc (length_before 32 cs)) (length cs) ≡ leb (suc (suc (length_before 32 cs))) (suc (length cs)) = grind (arith, nat_tests) in
-        rw (e, h) (ap (λ b. (c ∷ take (length_before 32 cs) cs) ∷ cond b (split (drop (suc (length_before 32 cs)) cs)) []) k)
+    go : (b : Bool) → eqb c 32 ≡ b → slice_split (λ b. eqb b 32) cs ≡ split cs → slice_split (λ b. eqb b 32) (c ∷ cs) ≡ split (c ∷ cs)
+    go true e h = rw (e, h) refl
+    go false e h = rw (e, h) (onto_same c (split cs))
 
-pub from_step : (xs : List ℕ) (at n : ℕ) → at ≤ length xs → n ≡ length_before 32 (drop at xs) → words_from xs at ≡ take n (drop at xs) ∷ words_from xs (at + (n + 1))
-from_step xs at n h e =
-    let t : leb at (length xs) ≡ true = grind (arith, nat_tests) in
-    let l = length-drop at xs in
-    let s : suc n ≡ n + 1 = omega arith in
-    let k : leb (suc n) (length (drop at xs)) ≡ leb (at + (n + 1)) (length xs) = grind (arith, nat_tests) in
-    let d : drop (suc n) (drop at xs) ≡ drop (at + (n + 1)) xs = ap (λ m. drop m (drop at xs)) s ∙ drop-drop (n + 1) at xs in
-    let w : words_from (drop at xs) (suc n) ≡ words_from xs (at + (n + 1)) = λ i. cond (k i) (split (d i)) [] in
-    cond-true _ _ _ t ∙ (split_cut (drop at xs) ∙ (ap (λ m. take m (drop at xs) ∷ words_from (drop at xs) (suc m)) (sym e) ∙ ap (λ ws. take n (drop at xs) ∷ ws) w))
+-- the words that an iterator over a line has left
+abbrev pub words_left : Split ℕ (Unit {0}) → List (List ℕ)
+words_left s = cond (split_done s) [] (split (split_rest s))
+
+-- the first part, after which the iterator is at the rest or done
+first_part : (xs x rest : List ℕ) (done : Bool) → MatchBool done (xs ≡ x) ((y : ℕ) × (xs ≡ x ++ (y ∷ rest))) → IsFirstMatchOrLen (λ b. eqb b 32) xs (length x)
+    → slice_split (λ b. eqb b 32) xs ≡ x ∷ cond done [] (slice_split (λ b. eqb b 32) rest)
+first_part xs x rest true e h =
+    let front : All (λ z. eqb z 32 ≡ false) x = λ k d l. let a = h.0 k d (omega arith) l in grind (arith, common_steps) in
+    ap (slice_split (λ b. eqb b 32)) e ∙ slice_split_none (λ b. eqb b 32) x front
+first_part xs x rest false e h =
+    let front : All (λ z. eqb z 32 ≡ false) x = λ k d l. let a = h.0 k d (omega arith) l in let b = e.1 in grind (arith, common_steps) in
+    let hit : eqb e.0 32 ≡ true = let b = e.1 in let a = h.1 (grind (arith, common_steps)) e.0 in grind (arith, common_steps) in
+    ap (slice_split (λ b. eqb b 32)) e.1 ∙ slice_split_at (λ b. eqb b 32) x e.0 rest front hit
+
+-- what a call of `next` takes off
+pub word_taken : (g : Test) (s t : Split ℕ (Unit {0})) (r : Option (Bor (List ℕ))) (x : Bor (List ℕ)) → CutsAt 32 g → split_steps g s r t → r ≡ Some x → words_left s ≡ x.now ∷ words_left t
+word_taken g s t (Some y) x k h e =
+    let l : words_left s ≡ split (split_rest s) = ap (λ b. cond b [] (split (split_rest s))) h.0 in
+    let key : ComputesKey g (λ b. eqb b 32) tt = always_returns_same g (λ a b. b ≡ eqb a.0.now 32) tt (λ a b q m. let n = k a.0.now b q (record { shown = a.0; shows = refl; called = m }) in (n.1, n.0)) in
+    let p = first_part (split_rest s) y.now (split_rest t) (split_done t) h.1 (h.2 (λ b. eqb b 32) key).1 in
+    let y_is : y.now ≡ x.now = cc in
+    l ∙ (sym (split_parts (split_rest s)) ∙ (p ∙ ((λ i. y_is i ∷ cond (split_done t) [] (split_parts (split_rest t) i)))))
+word_taken g s t None x k h e = absurd (let z : ◌≡◌ {A = ℕ} 0 1 = cc in omega arith)
+
+pub no_words : (g : Test) (s t : Split ℕ (Unit {0})) (r : Option (Bor (List ℕ))) → split_steps g s r t → r ≡ None → words_left s ≡ []
+no_words g s t None h e = ap (λ b. cond b [] (split (split_rest s))) h.0
+no_words g s t (Some y) h e = absurd (let z : ◌≡◌ {A = ℕ} 0 1 = cc in omega arith)
+
+pub one_word : (g : Test) (s t : Split ℕ (Unit {0})) (r : Option (Bor (List ℕ))) → CutsAt 32 g → split_steps g s r t → is_some r ≡ true → (w : List ℕ) × (words_left s ≡ w ∷ words_left t)
+one_word g s t (Some x) k h e = (x.now, word_taken g s t (Some x) x k h refl)
+one_word g s t None k h e = absurd (let z : ◌≡◌ {A = ℕ} 0 1 = cc in omega arith)
+
+-- at the start of a line
+pub first_word : (g : Test) (s t : Split ℕ (Unit {0})) (r : Option (Bor (List ℕ))) (x : Bor (List ℕ)) (line : List ℕ) → split_rest s ≡ line → split_done s ≡ false → CutsAt 32 g → split_steps g s r t → r ≡ Some x → split line ≡ x.now ∷ words_left t
+first_word g s t r x line rest done k h e = sym (λ i. cond (done i) [] (split (rest i))) ∙ word_taken g s t r x k h e
 
 -- a line is its words with spaces between
-pub record Apart (xs : List ℕ) : Type 0 where
-  pub first : List ℕ
-  pub others : List (List ℕ)
-  pub is : split xs ≡ first ∷ others
-  pub back : with_spaces first others ≡ xs
-
-spaces_onto : (c : ℕ) (w : List ℕ) (ws : List (List ℕ)) → with_spaces (c ∷ w) ws ≡ c ∷ with_spaces w ws
-spaces_onto c w [] = refl
-spaces_onto c w (v ∷ ws) = refl
-
-pub apart : (xs : List ℕ) → Apart xs
-apart [] = record { first = []; others = []; is = refl; back = refl }
-apart (c ∷ cs) =
-    let a = apart cs in
-    elim (cases_Bool (eqb c 32)) [
-      | inl e ↦ record { first = []; others = a.first ∷ a.others; is = cond-true _ _ _ e ∙ ap (λ ws. [] ∷ ws) a.is; back = let q : c ≡ 32 = eqb-true c 32 e in rw (a.back, q) refl }
-      | inr e ↦ record { first = c ∷ a.first; others = a.others; is = cond-false _ _ _ e ∙ ap (onto_first c) a.is; back = spaces_onto c a.first a.others ∙ ap (λ ys. c ∷ ys) a.back }
-    ]
+joined : (w : List ℕ) (ws : List (List ℕ)) → join_with_byte 32 (w ∷ ws) ≡ with_spaces w ws
+joined w [] = refl
+joined w (v ∷ ws) = ap (λ xs. w ++ (32 ∷ xs)) (joined v ws)
 
 pub split_back : (xs w : List ℕ) (ws : List (List ℕ)) → split xs ≡ w ∷ ws → xs ≡ with_spaces w ws
-split_back xs w ws e =
-    let a = apart xs in
-    let p : a.first ≡ w = cc (sym a.is ∙ e) in
-    let q : a.others ≡ ws = cc (sym a.is ∙ e) in
-    sym a.back ∙ (λ i. with_spaces (p i) (q i))
+split_back xs w ws e = sym (join_with_byte-slice_split 32 xs) ∙ (ap (join_with_byte 32) (split_parts xs ∙ e) ∙ joined w ws)
 
 -- and words without spaces are those of their line
 abbrev pub clean : List ℕ → Bool
-clean [] = true
-clean (c ∷ cs) = not (eqb c 32) && clean cs
+clean w = list_all (λ b. not (eqb b 32)) w
 
 abbrev pub Cleans : List (List ℕ) → Type 0
 Cleans [] = Unit {0}
 Cleans (w ∷ ws) = (clean w ≡ true) × Cleans ws
 
-split_clean : (w : List ℕ) → clean w ≡ true → split w ≡ w ∷ []
-split_clean [] e = refl
-split_clean (c ∷ cs) e =
-    let p = and_parts (not (eqb c 32)) (clean cs) e in
-    cond-false _ _ _ (not-true (eqb c 32) p.0) ∙ ap (onto_first c) (split_clean cs p.1)
-
-split_space : (w xs : List ℕ) → clean w ≡ true → split (w ++ (32 ∷ xs)) ≡ w ∷ split xs
-split_space [] xs e = refl
-split_space (c ∷ cs) xs e =
-    let p = and_parts (not (eqb c 32)) (clean cs) e in
-    cond-false _ _ _ (not-true (eqb c 32) p.0) ∙ ap (onto_first c) (split_space cs xs p.1)
+no_space : (w : List ℕ) → clean w ≡ true → All (λ b. eqb b 32 ≡ false) w
+no_space w e k d h = not-true _ (AllPass-from_list_all (λ b. not (eqb b 32)) w e k d h)
 
 pub split_spaces : (w : List ℕ) (ws : List (List ℕ)) → clean w ≡ true → Cleans ws → split (with_spaces w ws) ≡ w ∷ ws
-split_spaces w [] e es = split_clean w e
-split_spaces w (v ∷ ws) e es = split_space w (with_spaces v ws) e ∙ ap (λ vs. w ∷ vs) (split_spaces v ws es.0 es.1)
-
-pub from_past : (xs : List ℕ) (at : ℕ) → length xs < at → words_from xs at ≡ []
-from_past xs at h = let t : leb at (length xs) ≡ false = grind (arith, nat_tests) in cond-false _ _ _ t
-
--- as the checker reads `&line[at..]` and `&line[at..at + n]`
-pub from_cut : (xs : List ℕ) (at n : ℕ) → at ≤ length xs → n ≡ length_before 32 (take (length xs - at) (drop at xs)) → words_from xs at ≡ take ((at + n) - at) (drop at xs) ∷ words_from xs (at + (n + 1))
-from_cut xs at n h e =
-    let s : n ≡ (at + n) - at = omega arith in
-    from_step xs at n h (e ∙ ap (length_before 32) (take_rest xs at)) ∙ ap (λ m. take m (drop at xs) ∷ words_from xs (at + (n + 1))) s
-
-pub cut : (xs : List ℕ) (at n : ℕ) → at ≤ length xs → n ≡ length_before 32 (take (length xs - at) (drop at xs)) → n ≤ length (take (length xs - at) (drop at xs)) → WordAt xs at (take ((at + n) - at) (drop at xs))
-cut xs at n h e l =
-    let d = length-drop at xs in
-    let r : length (take (length xs - at) (drop at xs)) ≡ length (drop at xs) = ap length (take_rest xs at) in
-    let s : (at + n) - at ≡ n = omega arith in
-    let m : length (take ((at + n) - at) (drop at xs)) ≡ n = ap (λ k. length (take k (drop at xs))) s ∙ length-take-le n (drop at xs) (omega arith) in
-    record { words = from_cut xs at n h e ∙ ap (λ k. take ((at + n) - at) (drop at xs) ∷ words_from xs (at + (k + 1))) (sym m); within = omega arith }
-
--- at the start of a line
-pub first_cut : (xs w : List ℕ) (n : ℕ) → WordAt xs 0 w → n ≡ length w → split xs ≡ w ∷ words_from xs (n + 1)
-first_cut xs w n k e =
-    let t : leb 0 (length xs) ≡ true = grind (arith, nat_tests) in
-    let s : 0 + (length w + 1) ≡ n + 1 = omega arith in
-    sym (cond-true _ _ _ t) ∙ (k.words ∙ ap (λ m. w ∷ words_from xs m) s)
+split_spaces w [] e es = sym (split_parts w) ∙ slice_split_none (λ b. eqb b 32) w (no_space w e)
+split_spaces w (v ∷ ws) e es =
+    let xs = with_spaces v ws in
+    sym (split_parts (w ++ (32 ∷ xs))) ∙ (slice_split_at (λ b. eqb b 32) w 32 xs (no_space w e) refl ∙ ap (λ vs. w ∷ vs) (split_parts xs ∙ split_spaces v ws es.0 es.1))

@@ -17,13 +17,10 @@ use Rattle.reader.proofs.Splits.{split_back}
 abbrev pub Stops : List ℕ → ℕ → Type 0
 Stops line k = ((c : Call) → WritableCall c → line ≡ text_of c → ⊥) × Wrong (split line) k
 
-pub stops_at : (line : List ℕ) (number k : ℕ) (p : Place) → p.line ≡ number → p.word ≡ k → Stops line k → Reads line number (Err p)
-stops_at line number k p l w s = (l, s.0, subst (λ (j : ℕ). Wrong (split line) j) (sym w) s.1)
-
--- the same for what a `?` hands on: p is the place q
+-- what a `?` hands on: p is the place q
 pub breaks_at : (line : List ℕ) (number k : ℕ) (r : Result Call Place) (p q : Place) → r ≡ Err p → p ≡ q → q.line ≡ number → q.word ≡ k → Stops line k → Reads line number r
 breaks_at line number k r p q e f l w s =
-    let law = stops_at line number k p (ap (λ x. x.line) f ∙ l) (ap (λ x. x.word) f ∙ w) s in
+    let law : Reads line number (Err p) = (ap (λ x. x.line) f ∙ l, s.0, subst (λ (j : ℕ). Wrong (split line) j) (sym (ap (λ x. x.word) f ∙ w)) s.1) in
     subst (λ (x : Result Call Place). Reads line number x) (sym e) law
 
 not_call : (line : List ℕ) (k : ℕ) → Wrong (split line) k → k ≤ length (split line) → (c : Call) → WritableCall c → line ≡ text_of c → ⊥

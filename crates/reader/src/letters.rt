@@ -2,17 +2,17 @@ ghost use Rattle.std.specs.Prelude.{◌≡◌, ◌≤◌};
 ghost use Rattle.reader.specs.Steps.{letter_bit, with_letter};
 ghost use Rattle.reader.specs.Texts.{ReadsAs, letters_of};
 
-// The bit of a permission letter; 0 for any other character.
-fn bit(letter: char) -> u32
+// The bit of a permission letter.
+fn bit(letter: char) -> Option<u32>
     ensures { result ≡ letter_bit letter }
 {
     match letter {
-        'r' => 1,
-        'w' => 2,
-        'c' => 4,
-        'g' => 8,
-        'o' => 16,
-        _ => 0,
+        'r' => Some(1),
+        'w' => Some(2),
+        'c' => Some(4),
+        'g' => Some(8),
+        'o' => Some(16),
+        _ => None,
     }
 }
 
@@ -21,11 +21,8 @@ fn add_letter(permissions: u32, letter: char) -> Option<u32>
     requires { permissions ≤ 31 }
     ensures { result ≡ with_letter permissions letter }
 {
-    let added = bit(letter);
-    if added <= permissions {
-        return None;
-    }
-    Some(permissions + added)
+    let added = bit(letter)?;
+    (added > permissions).then_some(permissions + added)
 }
 
 // The permissions that a word writes in letters.

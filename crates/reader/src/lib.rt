@@ -5,7 +5,6 @@ pub mod letters;
 pub mod line;
 pub mod number;
 pub mod place;
-pub mod scan;
 pub mod script;
 pub mod verb;
 pub mod word;

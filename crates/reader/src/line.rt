@@ -1,27 +1,19 @@
-ghost use Rattle.std.specs.Prelude.{◌≡◌, ◌≤◌, length, nat_lt};
+ghost use Rattle.std.specs.Prelude.{◌≡◌, true, None, is_some, IfErr, OnOk};
 ghost use Rattle.reader.specs.Lines.{Reads, ReadsOnce};
-ghost use Rattle.reader.specs.Steps.{WordAt};
 
 use crate::place::Place;
-use crate::scan::bytes_before;
 use crate::word::Word;
 use call::Call;
 
-// The word that begins at a byte of a line: up to the next space or the end.
-fn word_at(line: &[u8], at: usize) -> &[u8]
-    requires { at ≤ length line.now }
-    ensures { WordAt line.now at result.now }
+// Nothing if a line has no more words, or the place of a word that is too many.
+fn no_more(word: Option<&[u8]>, place: Place) -> Result<(), Place>
+    ensures ok { OnOk result (word.entry ≡ None) }
+    ensures err { IfErr result (λ at. (at ≡ place) × (is_some word.entry ≡ true)) }
 {
-    let length = bytes_before(&line[at..], b' ');
-    &line[at..at + length]
-}
-
-// Whether a line goes on after a word that ends before the byte `end`.
-fn goes_on(line: &[u8], end: usize) -> bool
-    requires { end ≤ length line.now }
-    ensures { result ≡ nat_lt end (length line.now) }
-{
-    end < line.len()
+    match word {
+        None => Ok(()),
+        Some(_) => Err(place),
+    }
 }
 
 // The call whose text a line is, or the place of the first word that is wrong, missing or too many.
@@ -29,26 +21,19 @@ pub fn read_line(line: &[u8], number: usize) -> Result<Call, Place>
     ensures law { Reads line.now number result }
     ensures once { ReadsOnce }
 {
-    let text = word_at(line, 0);
-    let word = Word::Verb {
-        text,
-        place: Place::of_verb(number),
-    };
-    let verb = word.verb()?;
+    let mut words = line.split(|byte| *byte == b' ');
+    let place = Place::of_verb(number);
+    let text = words.next().ok_or(place)?;
+    let verb = Word::Verb { text, place }.verb()?;
+    let kinds = verb.kinds();
+    // Kept as it is: a plain array of six, the most operands of a verb, since the project allows no heap here.
     let mut operands = [0; 6];
-    let mut end = text.len();
-    for i in 0..verb.arity() {
+    for (i, kind) in kinds.iter().enumerate() {
         let place = Place::of_operand(number, i);
-        if !goes_on(line, end) {
-            return Err(place);
-        }
-        let text = word_at(line, end + 1);
-        operands[i] = Word::operand(verb.kind_at(i), text, place).value()?;
-        end += 1 + text.len();
+        let text = words.next().ok_or(place)?;
+        operands[i] = Word::operand(*kind, text, place).value()?;
     }
-    if goes_on(line, end) {
-        return Err(Place::of_operand(number, verb.arity()));
-    }
+    no_more(words.next(), Place::of_operand(number, kinds.len()))?;
     Ok(verb.call(&operands))
 }
 
@@ -58,10 +43,7 @@ mod tests {
 
     // The number of the first wrong word; 0 if the line reads as a call.
     fn wrong_word(line: &[u8]) -> usize {
-        match read_line(line, 1) {
-            Ok(_) => 0,
-            Err(place) => place.word,
-        }
+        read_line(line, 1).err().map_or(0, |place| place.word)
     }
 
     #[test]

@@ -7,22 +7,18 @@ fn add_digit(number: u32, byte: u8) -> Option<u32>
     requires { number ≤ 65535 }
     ensures { result ≡ with_digit number byte }
 {
-    if byte < b'0' || byte > b'9' {
+    if !byte.is_ascii_digit() {
         return None;
     }
     let longer = number * 10 + u32::from(byte - b'0');
-    if longer > 65535 { None } else { Some(longer) }
+    (longer <= 65535).then_some(longer)
 }
 
 // Whether a word is not empty and has no leading zero.
 fn plain(text: &[u8]) -> bool
     ensures { result ≡ is_plain text.now }
 {
-    match text {
-        [] => false,
-        [b'0', _, ..] => false,
-        _ => true,
-    }
+    !matches!(text, [] | [b'0', _, ..])
 }
 
 // The number that a word writes in decimal.

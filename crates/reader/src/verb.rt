@@ -1,13 +1,12 @@
 ghost use Rattle.call.specs.declared.Call.{Call as TheCall};
 ghost use Rattle.reader.specs.Calls.{kinds_of, name_of, operands_of, verb_of};
-ghost use Rattle.reader.specs.Steps.{NamesOne, NamesVerb};
-ghost use Rattle.reader.specs.declared.verb.Kind.TheVariants.{Number as NumberKind};
-ghost use Rattle.std.specs.Prelude.{◌≡◌, length, take, Decides, slice_index_or};
+ghost use Rattle.reader.specs.Steps.{NamesVerb};
+ghost use Rattle.std.specs.Prelude.{◌≡◌, length, take, Decides};
 
 use call::Call;
 
 // The verbs that a line can begin with.
-#[derive(Clone, Copy)]
+#[derive(Clone, Copy, Debug, PartialEq, Eq)]
 pub enum Verb {
     Grant,
     Derive,
@@ -20,7 +19,7 @@ pub enum Verb {
 }
 
 // What an operand is written as.
-#[derive(Clone, Copy)]
+#[derive(Clone, Copy, Debug, PartialEq, Eq)]
 pub enum Kind {
     Number,
     Permissions,
@@ -62,25 +61,16 @@ impl Verb {
         text == self.name()
     }
 
-    // The number of its operands.
-    pub(crate) fn arity(self) -> usize
-        ensures { result ≡ length (kinds_of self) }
+    // What its operands are written as.
+    pub(crate) fn kinds(self) -> &'static [Kind]
+        ensures { result.now ≡ kinds_of self }
     {
+        use Kind::{Number, Permissions};
         match self {
-            Verb::Drop => 2,
-            Verb::Grant | Verb::Getb => 3,
-            Verb::Putb | Verb::Putc | Verb::Getc | Verb::Give => 4,
-            Verb::Derive => 6,
-        }
-    }
-
-    // What its operand at an index is written as.
-    pub(crate) fn kind_at(self, index: usize) -> Kind
-        ensures { result ≡ slice_index_or (kinds_of self) index NumberKind }
-    {
-        match (self, index) {
-            (Verb::Derive, 5) => Kind::Permissions,
-            _ => Kind::Number,
+            Verb::Drop => &[Number, Number],
+            Verb::Grant | Verb::Getb => &[Number, Number, Number],
+            Verb::Putb | Verb::Putc | Verb::Getc | Verb::Give => &[Number, Number, Number, Number],
+            Verb::Derive => &[Number, Number, Number, Number, Number, Permissions],
         }
     }
 
@@ -141,21 +131,9 @@ impl Verb {
     }
 }
 
-// The first of some verbs that a word names.
-fn first_named(verbs: &[Verb], text: &[u8]) -> Option<Verb>
-    ensures { NamesOne verbs.now text.now result }
-{
-    for verb in verbs {
-        if verb.is_named(text) {
-            return Some(*verb);
-        }
-    }
-    None
-}
-
 // The verb that a word names.
 pub(crate) fn named_verb(text: &[u8]) -> Option<Verb>
     ensures { NamesVerb text.now result }
 {
-    first_named(&VERBS, text)
+    VERBS.iter().copied().find(|verb| verb.is_named(text))
 }

@@ -7,7 +7,8 @@ use crate::place::Place;
 use crate::verb::{Kind, Verb, named_verb};
 
 // A word by what is expected at its place: a part of the script, with its place.
-#[derive(Clone, Copy)]
+// Kept as it is: the words are an enum whose cases borrow the script, by a rule of the project.
+#[derive(Clone, Copy, Debug, PartialEq, Eq)]
 pub enum Word<'a> {
     Verb { text: &'a [u8], place: Place },
     Number { text: &'a [u8], place: Place },
@@ -33,8 +34,7 @@ impl<'a> Word<'a> {
     {
         match self {
             Word::Verb { text, place } => named_verb(text).ok_or(place),
-            Word::Number { text: _, place } => Err(place),
-            Word::Permissions { text: _, place } => Err(place),
+            Word::Number { place, .. } | Word::Permissions { place, .. } => Err(place),
         }
     }
 
@@ -43,7 +43,7 @@ impl<'a> Word<'a> {
         ensures { ValueRead self.entry result }
     {
         match self {
-            Word::Verb { text: _, place } => Err(place),
+            Word::Verb { place, .. } => Err(place),
             Word::Number { text, place } => read_number(text).ok_or(place),
             Word::Permissions { text, place } => read_permissions(text).ok_or(place),
         }

@@ -1,13 +1,12 @@
-use Rattle.std.proofs.Common.{◌≡◌, ℕ, ◌+◌, ◌<◌, ◌≤◌, List, ◌∷◌, ◌++◌, length, take, Ok, Err, sym, refl, ap, ◌∙◌, arith, rules}
+use Rattle.std.proofs.Common.{◌≡◌, ℕ, ◌+◌, List, ◌∷◌, ◌++◌, length, take, Ok, Err, ap, ◌∙◌, arith, rules}
 use Rattle.std.proofs.lemmas.Result.{err_from_is_err_and}
-use Rattle.std.proofs.lemmas.Bool.Decides.{nat_tests}
+use borrow.Author.Tests.{tests}
 use Rattle.reader.specs.declared.verb.Verb.{Verb}
 use Rattle.reader.specs.Calls.{name_of, operand_texts, kinds_of}
-use Rattle.reader.specs.Steps.{words_from}
 use Rattle.reader.proofs.Once.{reads_once}
 use Rattle.reader.proofs.Operands.{operand_read}
-use Rattle.reader.proofs.Splits.{from_step, from_past, first_cut}
-use Rattle.reader.proofs.Stopping.{stops_at, breaks_at, no_verb, wrong_word, too_many, missing, whole, again}
+use Rattle.reader.proofs.Splits.{word_taken, no_words, one_word, first_word}
+use Rattle.reader.proofs.Stopping.{breaks_at, no_verb, wrong_word, too_many, missing, whole, again}
 use Rattle.reader.proofs.line.read_line.Goals as goal
 
 -- the words so far, and those to come
@@ -17,25 +16,30 @@ so_far v i ns ws = name_of v ∷ (operand_texts (take i (kinds_of v)) (take i ns
 pub returns-in_err-verb : goal.returns-in_err-verb
 returns-in_err-verb c =
     let line = c.args.line.now in
-    let text = c.word_at-text.result.now in
-    let p = err_from_is_err_and c.from_residual.result c.from_residual.ensures.1 in
+    let p = err_from_is_err_and c.from_residual-in_err-verb.result c.from_residual-in_err-verb.ensures.1 in
     let known = c.in_err-verb.ensures in
-    let first = first_cut line text _ c.word_at-text.ensures refl in
+    let first = first_word _ _ _ _ c.in_ok-text.text line c.split-words.ensures.rest c.split-words.ensures.done (λ x b q k. search (rules, tests)) c.next.ensures.steps c.in_ok-text.ensures.ok_part in
     record {
-      law = breaks_at line _ 1 _ p.0 c.of_verb.result p.1 (p.2 ∙ known.0) c.of_verb.ensures.line c.of_verb.ensures.word (no_verb line text _ first known.1);
+      law = breaks_at line _ 1 _ p.0 c.of_verb-place.result p.1 (p.2 ∙ known.0) c.of_verb-place.ensures.line c.of_verb-place.ensures.word (no_verb line _ _ first known.1);
       once = reads_once;
     }
 
-pub returns-then-not-goes_on : goal.returns-then-not-goes_on
-returns-then-not-goes_on c =
+pub loop-i-init : goal.loop-i-init
+loop-i-init c =
+    let line = c.args.line.now in
+    let first = first_word _ _ _ _ c.in_ok-text.text line c.split-words.ensures.rest c.split-words.ensures.done (λ x b q k. search (rules, tests)) c.next.ensures.steps c.in_ok-text.ensures.ok_part in
+    record { words = cc (first, c.in_ok-verb.ensures); fit = search rules; six = search rules }
+
+pub returns-in_err-text-2 : goal.returns-in_err-text-2
+returns-in_err-text-2 c =
     let line = c.args.line.now in
     let v = c.in_ok-verb.verb in
     let i = c.loop-i.i in
     let ns = c.loop-i.operands in
-    let past : length line < c.loop-i.end + 1 = grind (arith, nat_tests, c.if-not-goes_on.ensures) in
-    let words = c.loop-i.invariant.0 ∙ ap (so_far v i ns) (from_past line (c.loop-i.end + 1) past) in
+    let p = err_from_is_err_and c.from_residual-in_err-text-2.result c.from_residual-in_err-text-2.ensures.1 in
+    let words = c.loop-i.invariant.words ∙ ap (so_far v i ns) (no_words _ _ _ _ c.next-in-loop-i.ensures.steps c.in_err-text-2.ensures.ok_part) in
     record {
-      law = stops_at line _ (i + 2) c.of_operand-place.result c.of_operand-place.ensures.line c.of_operand-place.ensures.word (missing line v i (take i ns) words c.loop-i.invariant.1 (omega arith));
+      law = breaks_at line _ (i + 2) _ p.0 c.of_operand-place.result p.1 (p.2 ∙ search rules) c.of_operand-place.ensures.line c.of_operand-place.ensures.word (missing line v i (take i ns) words c.loop-i.invariant.fit (search rules));
       once = reads_once;
     }
 
@@ -45,14 +49,13 @@ returns-in_err-operands c =
     let v = c.in_ok-verb.verb in
     let i = c.loop-i.i in
     let ns = c.loop-i.operands in
-    let k = c.kind_at.result in
-    let text = c.word_at-text-in-loop-i.result.now in
+    let text = c.in_ok-text-2.text in
     let p = err_from_is_err_and c.from_residual-in_err-operands.result c.from_residual-in_err-operands.ensures.1 in
-    let read = operand_read c.operand.result k text c.of_operand-place.result (Err c.in_err-operands.field-0.0) c.operand.ensures.kind c.operand.ensures.text c.operand.ensures.place c.in_err-operands.ensures in
-    let words = c.loop-i.invariant.0 ∙ ap (so_far v i ns) c.word_at-text-in-loop-i.ensures.words in
+    let read = operand_read c.operand.result _ text.now c.of_operand-place.result (Err c.in_err-operands.field-0.0) c.operand.ensures.kind c.operand.ensures.text c.operand.ensures.place c.in_err-operands.ensures in
+    let words = c.loop-i.invariant.words ∙ ap (so_far v i ns) (word_taken _ _ _ _ text (λ x b q k. search (rules, tests)) c.next-in-loop-i.ensures.steps c.in_ok-text-2.ensures.ok_part) in
     record {
       law = breaks_at line _ (i + 2) _ p.0 c.of_operand-place.result p.1 (p.2 ∙ read.0) c.of_operand-place.ensures.line c.of_operand-place.ensures.word
-          (wrong_word line v i (take i ns) text _ k words c.loop-i.invariant.1 (omega arith) c.kind_at.ensures read.1);
+          (wrong_word line v i (take i ns) text.now _ _ words c.loop-i.invariant.fit (search rules) (search rules) read.1);
       once = reads_once;
     }
 
@@ -62,28 +65,27 @@ loop-i-preserved c =
     let v = c.in_ok-verb.verb in
     let i = c.loop-i.i in
     let ns = c.loop-i.operands in
-    let k = c.kind_at.result in
-    let text = c.word_at-text-in-loop-i.result.now in
+    let text = c.in_ok-text-2.text in
     let x = c.in_ok-operands.field-0 in
-    let read = operand_read c.operand.result k text c.of_operand-place.result (Ok x) c.operand.ensures.kind c.operand.ensures.text c.operand.ensures.place c.in_ok-operands.ensures in
-    let next : (c.loop-i.end + 1) + (length text + 1) ≡ (c.loop-i.end + (1 + length text)) + 1 = omega arith in
-    let step = c.word_at-text-in-loop-i.ensures.words ∙ ap (λ m. text ∷ words_from line m) next in
-    let words = c.loop-i.invariant.0 ∙ ap (so_far v i ns) step in
-    let six : length ns ≡ 6 = c.loop-i.invariant.3 in
-    let a = again line v i ns text _ k x words c.loop-i.invariant.1 (omega arith) (search rules) c.kind_at.ensures read in
-    (a.0, a.1, omega (arith, c.word_at-text-in-loop-i.ensures.within), search rules)
+    let read = operand_read c.operand.result _ text.now c.of_operand-place.result (Ok x) c.operand.ensures.kind c.operand.ensures.text c.operand.ensures.place c.in_ok-operands.ensures in
+    let words = c.loop-i.invariant.words ∙ ap (so_far v i ns) (word_taken _ _ _ _ text (λ x b q k. search (rules, tests)) c.next-in-loop-i.ensures.steps c.in_ok-text-2.ensures.ok_part) in
+    let a = again line v i ns text.now _ _ x words c.loop-i.invariant.fit (search rules) (search rules) (search rules) read in
+    record { words = a.0; fit = a.1; six = search rules }
 
-pub returns-then-goes_on : goal.returns-then-goes_on
-returns-then-goes_on c =
+pub returns-in_err-no_more : goal.returns-in_err-no_more
+returns-in_err-no_more c =
     let line = c.args.line.now in
     let v = c.in_ok-verb.verb in
     let i = c.loop-i.i in
     let ns = c.loop-i.operands in
-    let inside : c.loop-i.end + 1 ≤ length line = grind (arith, nat_tests, c.if-goes_on.ensures) in
-    let e : i ≡ length (kinds_of v) = omega arith in
-    let words = c.loop-i.invariant.0 ∙ ap (so_far v i ns) (from_step line (c.loop-i.end + 1) _ inside refl) in
+    let p = err_from_is_err_and c.from_residual-in_err-no_more.result c.from_residual-in_err-no_more.ensures.1 in
+    let e : i ≡ length (kinds_of v) = search rules in
+    let known = c.in_err-no_more.ensures.err in
+    let more = one_word _ _ _ _ (λ x b q k. search (rules, tests)) c.next-2.ensures.steps known.1 in
+    let words = c.loop-i.invariant.words ∙ ap (so_far v i ns) more.1 in
+    let word : c.of_operand.result.word ≡ i + 2 = search rules in
     record {
-      law = stops_at line _ (i + 2) c.of_operand.result c.of_operand.ensures.line (c.of_operand.ensures.word ∙ ap (λ m. m + 2) (c.arity.ensures ∙ sym e)) (too_many line v i (take i ns) _ _ words c.loop-i.invariant.1 e);
+      law = breaks_at line _ (i + 2) _ p.0 c.of_operand.result p.1 (p.2 ∙ known.0) c.of_operand.ensures.line word (too_many line v i (take i ns) more.0 _ words c.loop-i.invariant.fit e);
       once = reads_once;
     }
 
@@ -93,10 +95,9 @@ returns c =
     let v = c.in_ok-verb.verb in
     let i = c.loop-i.i in
     let ns = c.loop-i.operands in
-    let past : length line < c.loop-i.end + 1 = grind (arith, nat_tests, c.if-goes_on.ensures) in
-    let k : length (kinds_of v) ≡ i = omega arith in
-    let words = c.loop-i.invariant.0 ∙ ap (so_far v i ns) (from_past line (c.loop-i.end + 1) past) in
+    let words = c.loop-i.invariant.words ∙ ap (so_far v i ns) (no_words _ _ _ _ c.next-2.ensures.steps c.in_ok-no_more.ensures.ok) in
+    let k : length (kinds_of v) ≡ i = search rules in
     record {
-      law = whole line v i (take i ns) c.call.result words c.loop-i.invariant.1 (omega arith) c.call.ensures.verb (c.call.ensures.operands ∙ ap (λ m. take m ns) k);
+      law = whole line v i (take i ns) c.call.result words c.loop-i.invariant.fit (omega arith) c.call.ensures.verb (c.call.ensures.operands ∙ ap (λ m. take m ns) k);
       once = reads_once;
     }
