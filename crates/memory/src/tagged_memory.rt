@@ -16,15 +16,6 @@ pub trait TaggedMemory {
     // May a granule hold a capability? The kind's own rule, on the tags alone.
     ghost may: { List Bool → ℕ → Bool };
 
-    // Every granule has 16 bytes.
-    ghost sized: { (m : Self) → length (bytes m) ≡ 16 * length (tags m) };
-
-    // There are at most 1,024 granules.
-    ghost bounded: { (m : Self) → length (tags m) ≤ most_granules };
-
-    // The kind's rule says no only at an untagged granule.
-    ghost sure: { (ts : List Bool) (g : ℕ) → may ts g ≡ false → slice_index_or ts g false ≡ false };
-
     fn granules(&self) -> usize
         ensures count { result ≡ length (tags self.now) }
         ensures few { result ≤ most_granules };
@@ -65,4 +56,13 @@ pub trait TaggedMemory {
         ensures bytes { bytes self.new ≡ (if is_ok result then paste (bytes self.old) (16 * g) (replicate (16 * n) 0) (16 * n) else bytes self.old) }
         ensures tags { tags self.new ≡ (if is_ok result then paste (tags self.old) g (replicate n false) n else tags self.old) }
         ensures denied { is_ok result ≡ false → self.new ≡ self.old };
+
+    // Every granule has 16 bytes.
+    ghost sized: { (m : Self) → length (bytes m) ≡ 16 * length (tags m) };
+
+    // There are at most 1,024 granules.
+    ghost bounded: { (m : Self) → length (tags m) ≤ most_granules };
+
+    // The kind's rule says no only at an untagged granule.
+    ghost sure: { (ts : List Bool) (g : ℕ) → may ts g ≡ false → slice_index_or ts g false ≡ false };
 }
