@@ -1,6 +1,9 @@
 // What a run of a script prints.
 #![tactic(auto)]
 
+ghost use Rattle.std.specs.Prelude.{Some};
+ghost use Rattle.report.specs.Texts.{part_text};
+
 use allocator::quota::Quota;
 use machine::machine::Machine;
 use memory::flat::Flat;
@@ -20,6 +23,8 @@ struct Part<'a> {
 }
 
 impl fmt::Display for Part<'_> {
+    ghost output = { λ p. Some (part_text p.letter p.granules p.outcomes.now) };
+
     fn fmt<W: fmt::Write>(&self, f: &mut fmt::Formatter<W>) -> fmt::Result {
         let letter = self.letter;
         let granules = self.granules;

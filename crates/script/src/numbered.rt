@@ -1,8 +1,9 @@
 ghost use Rattle.script.specs.Faults.{script_answer, script_denial, script_layer, script_line};
 ghost use Rattle.script.specs.Faults.{unread};
+ghost use Rattle.script.specs.Texts.{fault_text};
 ghost use Rattle.script.specs.declared.fault.RunError.TheVariants.{Memory as MemoryCase};
 ghost use Rattle.script.specs.declared.fault.ScriptFault.TheVariants.{Call as CallCase, Text as TextCase};
-ghost use Rattle.std.specs.Prelude.{◌≡◌};
+ghost use Rattle.std.specs.Prelude.{◌≡◌, Some};
 
 use crate::fault::{LineFault, RunError, ScriptFault};
 use denial::{Denial, Fault, Layer};
@@ -54,6 +55,8 @@ impl ScriptFault {
 
 // The line's number, the denial's number, the layer's letter, and the word on TEXT, else 0.
 impl fmt::Display for ScriptFault {
+    ghost output = { λ f. Some (fault_text f) };
+
     fn fmt<W: fmt::Write>(&self, f: &mut fmt::Formatter<W>) -> fmt::Result {
         let line = self.line();
         let code = self.code();

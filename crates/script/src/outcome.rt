@@ -1,3 +1,6 @@
+ghost use Rattle.std.specs.Prelude.{Some};
+ghost use Rattle.script.specs.Texts.{outcome_text};
+
 use crate::fault::ScriptFault;
 use std::fmt;
 
@@ -10,6 +13,8 @@ pub struct LineOutcome {
 
 // The line's number, 0, `-` and the answer of an accepted call; else the fault.
 impl fmt::Display for LineOutcome {
+    ghost output = { λ o. Some (outcome_text o) };
+
     fn fmt<W: fmt::Write>(&self, f: &mut fmt::Formatter<W>) -> fmt::Result {
         let line = self.line;
         match self.outcome {
