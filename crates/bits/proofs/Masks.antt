@@ -1,5 +1,5 @@
 -- The bits of a buffer after one byte is written, and lists filled from a place on.
-use Rattle.std.proofs.Common.{◌≡◌, ℕ, ◌+◌, ◌-◌, ◌*◌, ◌/◌, ◌%◌, ◌^◌, ◌<◌, ◌≤◌, Bool, true, false, cond, eqb, List, length, get_or, set, replicate, sym, refl, ap, ◌∙◌, ⊎_elim, arith, w8}
+use Rattle.std.proofs.Common.{◌≡◌, ℕ, ◌+◌, ◌-◌, ◌*◌, ◌/◌, ◌%◌, ◌^◌, ◌<◌, ◌≤◌, Bool, true, false, cond, eqb, List, length, get_or, set, replicate, refl, ap, ◌∙◌, ⊎_elim, arith, w8}
 use lib.Bits.{bit_and, bit_or}
 use lib.Seq.{paste}
 use Rattle.std.proofs.lemmas.List.FromFn.{get_or-map-range_with_len}
@@ -28,9 +28,6 @@ bit_at_put bs g w i v p hg =
     (cases_eq (i / 8) (g / 8))))
     (cases_eq i g)
 
-get_or_set_cond : (ts : List Bool) (g i : ℕ) (v d : Bool) → g < length ts → get_or (set ts g v) i d ≡ cond (eqb i g) v (get_or ts i d)
-get_or_set_cond ts g i v d h = grind (arith, nat_tests, common_steps)
-
 bits_put_at : (bs : List ℕ) (g w : ℕ) (v : Bool) → g < 8 * length bs → BitPut (get_or bs (g / 8) 0) w (g % 8) v → bits_of (set bs (g / 8) w) ≡ set (bits_of bs) g v
 bits_put_at bs g w v h p =
     let n = length-set bs (g / 8) w in
@@ -39,7 +36,9 @@ bits_put_at bs g w v h p =
     (omega (arith, length_bits (set bs (g / 8) w), length-set (bits_of bs) g v))
     (λ i l.
     let b : i < 8 * length bs = omega (arith, length_bits (set bs (g / 8) w)) in
-    get_d_bits (set bs (g / 8) w) i (omega arith) ∙ (bit_at_put bs g w i v p h ∙ sym (get_or_set_cond (bits_of bs) g i v false (omega arith) ∙ ap (λ t. cond (eqb i g) v t) (get_d_bits bs i b))))
+    let read = get_d_bits (set bs (g / 8) w) i (omega arith) ∙ bit_at_put bs g w i v p h in
+    let was = get_d_bits bs i b in
+    grind (arith, nat_tests, common_steps, length_bits))
 
 -- the bits after a write of the byte where place g lies
 pub bits_put : (bs : List ℕ) (g i k w : ℕ) (v : Bool) → i ≡ g / 8 → k ≡ g % 8 → i < length bs → BitPut (get_or bs i 0) w k v → bits_of (set bs i w) ≡ set (bits_of bs) g v
