@@ -1,15 +1,15 @@
 -- The bits of a buffer after one byte is written, and lists filled from a place on.
-use Rattle.std.proofs.Common.{◌≡◌, ℕ, ◌+◌, ◌-◌, ◌*◌, ◌/◌, ◌%◌, ◌^◌, ◌<◌, ◌≤◌, Bool, true, false, cond, eqb, List, length, get_or, set, replicate, sym, refl, ap, ◌∙◌, ⊎_elim, arith, w8}
+use Rattle.std.proofs.Common.{◌≡◌, ℕ, ◌+◌, ◌-◌, ◌*◌, ◌/◌, ◌%◌, ◌^◌, ◌<◌, ◌≤◌, Bool, true, false, cond, eqb, List, length, get_or, set, replicate, refl, ap, ◌∙◌, ⊎_elim, arith, w8}
 use lib.Bits.{bit_and, bit_or}
 use lib.Seq.{paste}
 use Rattle.std.proofs.lemmas.List.FromFn.{get_or-map-range_with_len}
 use Rattle.std.proofs.lemmas.List.Edits.{fill_from_more}
-use Rattle.std.proofs.lemmas.List.{length-set, get_or-set_same, get_or-set_other, ext_get_or}
+use Rattle.std.proofs.lemmas.List.{length-set, ext_get_or}
 use Rattle.std.proofs.lemmas.Bool.{cases_eq, eq-eqb, ne_eqb}
 use Rattle.std.proofs.lemmas.Nat.Bits.{bit_at_set_same, bit_at_set_other, bit_at_clear_same, bit_at_clear_other}
 use Rattle.std.proofs.lemmas.Bool.Decides.{nat_tests}
 use Rattle.std.proofs.lemmas.Grind.{common_steps}
-use Rattle.bits.specs.Bits.{bit, bit_at, bits_of, BitPut, length_bits}
+use Rattle.bits.specs.Bits.{bit_at, bits_of, BitPut, length_bits}
 
 pub get_d_bits : (bs : List ℕ) (g : ℕ) → g < 8 * length bs → get_or (bits_of bs) g false ≡ bit_at bs g
 unfolding bits_of
@@ -18,18 +18,8 @@ get_d_bits bs g h = get_or-map-range_with_len (bit_at bs) 0 (8 * length bs) g g 
 -- the bit at a place after a write of the byte where another lies
 pub bit_at_put : (bs : List ℕ) (g w i : ℕ) (v : Bool) → BitPut (get_or bs (g / 8) 0) w (g % 8) v → g < 8 * length bs → bit_at (set bs (g / 8) w) i ≡ cond (eqb i g) v (bit_at bs i)
 bit_at_put bs g w i v p hg =
-    let lt : g / 8 < length bs = omega arith in
-    ⊎_elim
-    (λ (e : i ≡ g). rw (e, get_or-set_same bs (g / 8) w 0 lt, eq-eqb g g refl) (p (g % 8) (omega arith) ∙ rw (eq-eqb (g % 8) (g % 8) refl)))
-    (λ (ne : i ≡ g → ⊥). rw (ne_eqb i g ne)
-    (⊎_elim
-    (λ (e : i / 8 ≡ g / 8). rw (e, get_or-set_same bs (g / 8) w 0 lt) (p (i % 8) (omega arith) ∙ rw (ne_eqb (i % 8) (g % 8) (λ f. ne (omega arith)))))
-    (λ (n : i / 8 ≡ g / 8 → ⊥). ap (λ b. bit b (i % 8)) (get_or-set_other bs (g / 8) (i / 8) w 0 n))
-    (cases_eq (i / 8) (g / 8))))
-    (cases_eq i g)
-
-get_or_set_cond : (ts : List Bool) (g i : ℕ) (v d : Bool) → g < length ts → get_or (set ts g v) i d ≡ cond (eqb i g) v (get_or ts i d)
-get_or_set_cond ts g i v d h = grind (arith, nat_tests, common_steps)
+    let at = p (i % 8) (omega arith) in
+    grind (arith, nat_tests, common_steps)
 
 bits_put_at : (bs : List ℕ) (g w : ℕ) (v : Bool) → g < 8 * length bs → BitPut (get_or bs (g / 8) 0) w (g % 8) v → bits_of (set bs (g / 8) w) ≡ set (bits_of bs) g v
 bits_put_at bs g w v h p =
@@ -39,7 +29,9 @@ bits_put_at bs g w v h p =
     (omega (arith, length_bits (set bs (g / 8) w), length-set (bits_of bs) g v))
     (λ i l.
     let b : i < 8 * length bs = omega (arith, length_bits (set bs (g / 8) w)) in
-    get_d_bits (set bs (g / 8) w) i (omega arith) ∙ (bit_at_put bs g w i v p h ∙ sym (get_or_set_cond (bits_of bs) g i v false (omega arith) ∙ ap (λ t. cond (eqb i g) v t) (get_d_bits bs i b))))
+    let read = get_d_bits (set bs (g / 8) w) i (omega arith) ∙ bit_at_put bs g w i v p h in
+    let was = get_d_bits bs i b in
+    grind (arith, nat_tests, common_steps, length_bits))
 
 -- the bits after a write of the byte where place g lies
 pub bits_put : (bs : List ℕ) (g i k w : ℕ) (v : Bool) → i ≡ g / 8 → k ≡ g % 8 → i < length bs → BitPut (get_or bs i 0) w k v → bits_of (set bs i w) ≡ set (bits_of bs) g v
