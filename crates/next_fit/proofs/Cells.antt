@@ -5,7 +5,7 @@ use Rattle.std.proofs.lemmas.List.FromFn.{length-map-range_with_len, get_or-map-
 use Rattle.std.proofs.lemmas.List.Edits.{length-paste}
 use Rattle.std.proofs.lemmas.List.{places, ext_get_or, length-replicate, get_or-replicate, get_or-set_same, get_or-set_other, get_or-map, length-map, get_or_past}
 use Rattle.std.proofs.lemmas.Bool.{cases_eq, cases_lt, cond-true, le-leb}
-use Rattle.allocator.specs.Maps.{Cell, free, first, rest, run_of}
+use Rattle.allocator.specs.Maps.{Cell, Free, First, Rest, run_of}
 use Rattle.bits.specs.Bits.{filled}
 use Rattle.next_fit.specs.Bitmaps.{cell_of, cells_of}
 use Rattle.next_fit.specs.Placement.{is_used}
@@ -19,17 +19,17 @@ unfolding cells_of
 get_or_cells us fs i d h =
     get_or-map-range_with_len (λ g. cell_of (get_or us g false) (get_or fs g false)) 0 (length us) i i d h (omega arith)
 
-pub cell_free : (f : Bool) → cell_of false f ≡ free
+pub cell_free : (f : Bool) → cell_of false f ≡ Free
 cell_free true = refl
 cell_free false = refl
 
 -- the same at any place, past the end too
-pub cell_at : (us fs : List Bool) (i : ℕ) → get_or (cells_of us fs) i free ≡ cell_of (get_or us i false) (get_or fs i false)
+pub cell_at : (us fs : List Bool) (i : ℕ) → get_or (cells_of us fs) i Free ≡ cell_of (get_or us i false) (get_or fs i false)
 cell_at us fs i =
     ⊎_elim
-    (λ (h : i < length us). get_or_cells us fs i free h)
+    (λ (h : i < length us). get_or_cells us fs i Free h)
     (λ (h : length us ≤ i).
-    get_or_past (cells_of us fs) i free (omega (arith, length_cells us fs))
+    get_or_past (cells_of us fs) i Free (omega (arith, length_cells us fs))
     ∙ sym (ap (λ u. cell_of u (get_or fs i false)) (get_or_past us i false h) ∙ cell_free (get_or fs i false)))
     (cases_lt i (length us))
 
@@ -39,8 +39,8 @@ used_cells us fs =
     ext_get_or false (map is_used (cells_of us fs)) us (length-map (cells_of us fs) is_used ∙ length_cells us fs)
     (λ i h.
     let l : i < length us = omega (arith, length-map (cells_of us fs) is_used, length_cells us fs) in
-    get_or-map is_used (cells_of us fs) i free false (omega (arith, length_cells us fs))
-    ∙ (ap is_used (get_or_cells us fs i free l) ∙ used_of (get_or us i false) (get_or fs i false)))
+    get_or-map is_used (cells_of us fs) i Free false (omega (arith, length_cells us fs))
+    ∙ (ap is_used (get_or_cells us fs i Free l) ∙ used_of (get_or us i false) (get_or fs i false)))
   where
     used_of : (u f : Bool) → is_used (cell_of u f) ≡ u
     used_of true true = refl
@@ -66,16 +66,16 @@ filled_run xs b n v h =
 
 pub length_run : (n : ℕ) → length (run_of n) ≡ n
 length_run zero = refl
-length_run (suc n) = ap suc (length-replicate n rest)
+length_run (suc n) = ap suc (length-replicate n Rest)
 
-run_first : (n : ℕ) (d : Cell) → 0 < n → get_or (run_of n) 0 d ≡ first
+run_first : (n : ℕ) (d : Cell) → 0 < n → get_or (run_of n) 0 d ≡ First
 run_first zero d h = absurd (omega arith)
 run_first (suc n) d h = refl
 
-run_rest : (n k : ℕ) (d : Cell) → 0 < k → k < n → get_or (run_of n) k d ≡ rest
+run_rest : (n k : ℕ) (d : Cell) → 0 < k → k < n → get_or (run_of n) k d ≡ Rest
 run_rest zero k d g h = absurd (omega arith)
 run_rest (suc n) zero d g h = absurd (omega arith)
-run_rest (suc n) (suc k) d g h = get_or-replicate n k rest d (omega arith)
+run_rest (suc n) (suc k) d g h = get_or-replicate n k Rest d (omega arith)
 
 -- a run allocated at b, in both bit lists
 pub cells_run :
@@ -90,59 +90,59 @@ cells_run us fs b n z hu hf =
     let lc = length_cells us fs in
     let lu : length us' ≡ length us = length-paste us b (replicate n true) n hu (omega arith) in
     let lp : length ps ≡ length fs = length-paste fs b (replicate n false) n hf (omega arith) in
-    ext_get_or free (cells_of us' (set ps b true)) (paste (cells_of us fs) b (run_of n) n)
+    ext_get_or Free (cells_of us' (set ps b true)) (paste (cells_of us fs) b (run_of n) n)
     (length_cells us' (set ps b true) ∙ (lu ∙ sym (length-paste (cells_of us fs) b (run_of n) n (omega arith) (omega arith) ∙ lc)))
     (λ i h.
     let l : i < length us = omega (arith, length_cells us' (set ps b true)) in
-    get_or_cells us' (set ps b true) i free (omega arith)
+    get_or_cells us' (set ps b true) i Free (omega arith)
     ∙ ⊎_elim
     (λ (below : i < b).
     let ne : (i ≡ b → ⊥) = λ e. omega arith in
     rw (get_or-set_other ps b i true false ne, paste_below us (replicate n true) b n i false below hu lt, paste_below fs (replicate n false) b n i false below hf lf)
-    (sym (paste_below (cells_of us fs) (run_of n) b n i free below (omega arith) lr ∙ get_or_cells us fs i free l)))
+    (sym (paste_below (cells_of us fs) (run_of n) b n i Free below (omega arith) lr ∙ get_or_cells us fs i Free l)))
     (λ (from : b ≤ i).
     ⊎_elim
     (λ (in' : i < b + n).
-    rw (paste_in us (replicate n true) b n i false from in' hu lt, get_or-replicate n (i - b) true false (omega arith), paste_in (cells_of us fs) (run_of n) b n i free from in' (omega arith) lr)
+    rw (paste_in us (replicate n true) b n i false from in' hu lt, get_or-replicate n (i - b) true false (omega arith), paste_in (cells_of us fs) (run_of n) b n i Free from in' (omega arith) lr)
     (⊎_elim
     (λ (e : i ≡ b).
     let o : i - b ≡ 0 = omega arith in
-    rw (o, e, get_or-set_same ps b true false (omega arith)) (sym (run_first n free z)))
+    rw (o, e, get_or-set_same ps b true false (omega arith)) (sym (run_first n Free z)))
     (λ (ne : i ≡ b → ⊥).
     rw (get_or-set_other ps b i true false ne, paste_in fs (replicate n false) b n i false from in' hf lf, get_or-replicate n (i - b) false false (omega arith))
-    (sym (run_rest n (i - b) free (omega arith) (omega arith))))
+    (sym (run_rest n (i - b) Free (omega arith) (omega arith))))
     (cases_eq i b)))
     (λ (past : b + n ≤ i).
     let ne : (i ≡ b → ⊥) = λ e. omega arith in
     rw (get_or-set_other ps b i true false ne, paste_above us (replicate n true) b n i false past hu lt, paste_above fs (replicate n false) b n i false past hf lf)
-    (sym (paste_above (cells_of us fs) (run_of n) b n i free past (omega arith) lr ∙ get_or_cells us fs i free l)))
+    (sym (paste_above (cells_of us fs) (run_of n) b n i Free past (omega arith) lr ∙ get_or_cells us fs i Free l)))
     (cases_lt i (b + n)))
     (cases_lt i b))
 
 -- a run released at b
-pub cells_freed : (us fs : List Bool) (b n : ℕ) → b + n ≤ length us → cells_of (paste us b (replicate n false) n) fs ≡ paste (cells_of us fs) b (replicate n free) n
+pub cells_freed : (us fs : List Bool) (b n : ℕ) → b + n ≤ length us → cells_of (paste us b (replicate n false) n) fs ≡ paste (cells_of us fs) b (replicate n Free) n
 cells_freed us fs b n hu =
     let vs = paste us b (replicate n false) n in
     let lt = length-replicate n false in
-    let lr = length-replicate n free in
+    let lr = length-replicate n Free in
     let lc = length_cells us fs in
     let lu : length vs ≡ length us = length-paste us b (replicate n false) n hu (omega arith) in
-    ext_get_or free (cells_of vs fs) (paste (cells_of us fs) b (replicate n free) n)
-    (length_cells vs fs ∙ (lu ∙ sym (length-paste (cells_of us fs) b (replicate n free) n (omega arith) (omega arith) ∙ lc)))
+    ext_get_or Free (cells_of vs fs) (paste (cells_of us fs) b (replicate n Free) n)
+    (length_cells vs fs ∙ (lu ∙ sym (length-paste (cells_of us fs) b (replicate n Free) n (omega arith) (omega arith) ∙ lc)))
     (λ i h.
     let l : i < length us = omega (arith, length_cells vs fs) in
-    get_or_cells vs fs i free (omega arith)
+    get_or_cells vs fs i Free (omega arith)
     ∙ ⊎_elim
     (λ (below : i < b).
     rw (paste_below us (replicate n false) b n i false below hu lt)
-    (sym (paste_below (cells_of us fs) (replicate n free) b n i free below (omega arith) lr ∙ get_or_cells us fs i free l)))
+    (sym (paste_below (cells_of us fs) (replicate n Free) b n i Free below (omega arith) lr ∙ get_or_cells us fs i Free l)))
     (λ (from : b ≤ i).
     ⊎_elim
     (λ (in' : i < b + n).
-    rw (paste_in us (replicate n false) b n i false from in' hu lt, get_or-replicate n (i - b) false false (omega arith), paste_in (cells_of us fs) (replicate n free) b n i free from in' (omega arith) lr, get_or-replicate n (i - b) free free (omega arith))
+    rw (paste_in us (replicate n false) b n i false from in' hu lt, get_or-replicate n (i - b) false false (omega arith), paste_in (cells_of us fs) (replicate n Free) b n i Free from in' (omega arith) lr, get_or-replicate n (i - b) Free Free (omega arith))
     (cell_free (get_or fs i false)))
     (λ (past : b + n ≤ i).
     rw (paste_above us (replicate n false) b n i false past hu lt)
-    (sym (paste_above (cells_of us fs) (replicate n free) b n i free past (omega arith) lr ∙ get_or_cells us fs i free l)))
+    (sym (paste_above (cells_of us fs) (replicate n Free) b n i Free past (omega arith) lr ∙ get_or_cells us fs i Free l)))
     (cases_lt i (b + n)))
     (cases_lt i b))

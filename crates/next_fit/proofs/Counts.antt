@@ -6,7 +6,7 @@ use Rattle.std.proofs.lemmas.List.FromFn.{get_or-map-range_with_len}
 use Rattle.std.proofs.lemmas.List.{at_drop_more, at_drop_all, nil_from_length, ext_get_or, length-replicate, get_or-replicate}
 use Rattle.std.proofs.lemmas.Bool.{eqb-true, leb-true, and_parts, cond-true, cond-false, ne_eqb, le-ltb, lt-ltb}
 use Rattle.allocator.specs.Allocators.{allocating, releasing}
-use Rattle.allocator.specs.Maps.{Cell, free, first, rest, taken_in, run_length, run_of, Rule}
+use Rattle.allocator.specs.Maps.{Cell, Free, First, Rest, taken_in, run_length, run_of, Rule}
 use Rattle.bits.specs.Bits.{bit_at, bits_of, filled, length_bits}
 use Rattle.next_fit.specs.Bitmaps.{GranulesOf, cell_of, cells_of, count_set, fresh_map, map_of, sizes_fit, zeroed_if}
 use Rattle.next_fit.specs.Laws.{next_fit_lawful}
@@ -44,9 +44,9 @@ granules_open us fs e =
 taken_used : (cs : List Cell) → taken_in cs ≡ count_set (map is_used cs)
 unfolding taken_in
 taken_used [] = refl
-taken_used (free ∷ cs) = taken_used cs
-taken_used (first ∷ cs) = ap suc (taken_used cs)
-taken_used (rest ∷ cs) = ap suc (taken_used cs)
+taken_used (Free ∷ cs) = taken_used cs
+taken_used (First ∷ cs) = ap suc (taken_used cs)
+taken_used (Rest ∷ cs) = ap suc (taken_used cs)
 
 -- the taken granules are those whose used bit is set
 pub taken_cells : (us fs : List Bool) → taken_in (cells_of us fs) ≡ count_set us
@@ -91,16 +91,16 @@ map_allocated us fs us' fs' b n e lu lf z hu hf pu pf =
 -- the map after the write of a release
 pub map_released :
     (us fs us' : List ℕ) (b n : ℕ) → sizes_fit (length us) (length fs) ≡ true → length us' ≡ length us → b + n ≤ 8 * length us →
-    bits_of us' ≡ filled (bits_of us) b (b + n) false → map_of us' fs ≡ paste (map_of us fs) b (replicate n free) n
+    bits_of us' ≡ filled (bits_of us) b (b + n) false → map_of us' fs ≡ paste (map_of us fs) b (replicate n Free) n
 map_released us fs us' b n e lu h p =
     let nu = length_bits us in
     let q = p ∙ filled_run (bits_of us) b n false (omega arith) in
     map_open us' fs (rw lu e)
-    ∙ (rw q (cells_freed (bits_of us) (bits_of fs) b n (omega arith)) ∙ ap (λ cs. paste cs b (replicate n free) n) (sym (map_open us fs e)))
+    ∙ (rw q (cells_freed (bits_of us) (bits_of fs) b n (omega arith)) ∙ ap (λ cs. paste cs b (replicate n Free) n) (sym (map_open us fs e)))
 
 pub releasing_whole :
     (cs : List Cell) (m b n : ℕ) → 0 < n → n ≡ run_length cs b →
-    releasing cs m b ≡ record { answer = Ok n; cells = paste cs b (replicate n free) n; mark = m }
+    releasing cs m b ≡ record { answer = Ok n; cells = paste cs b (replicate n Free) n; mark = m }
 releasing_whole cs m b n z e = rw (sym e, lt-ltb 0 n z)
 
 -- what the rule answers lies inside
@@ -121,16 +121,16 @@ zero_bits n i h =
     zero_bit k = rw zero-div
 
 -- two zeroed buffers: all granules are free
-pub cells_fresh : (n m : ℕ) → cells_of (bits_of (replicate n 0)) (bits_of (replicate m 0)) ≡ replicate (8 * n) free
+pub cells_fresh : (n m : ℕ) → cells_of (bits_of (replicate n 0)) (bits_of (replicate m 0)) ≡ replicate (8 * n) Free
 cells_fresh n m =
     let us = bits_of (replicate n 0) in
     let fs = bits_of (replicate m 0) in
     let l : length us ≡ 8 * n = length_bits (replicate n 0) ∙ ap (λ k. 8 * k) (length-replicate {A = ℕ} n 0) in
-    ext_get_or free (cells_of us fs) (replicate (8 * n) free) (length_cells us fs ∙ (l ∙ sym (length-replicate (8 * n) free)))
+    ext_get_or Free (cells_of us fs) (replicate (8 * n) Free) (length_cells us fs ∙ (l ∙ sym (length-replicate (8 * n) Free)))
     (λ i h.
     let h' : i < 8 * n = omega (arith, length_cells us fs) in
     cell_at us fs i
-    ∙ (ap (λ u. cell_of u (get_or fs i false)) (zero_bits n i h') ∙ (cell_free (get_or fs i false) ∙ sym (get_or-replicate (8 * n) i free free h'))))
+    ∙ (ap (λ u. cell_of u (get_or fs i false)) (zero_bits n i h') ∙ (cell_free (get_or fs i false) ∙ sym (get_or-replicate (8 * n) i Free Free h'))))
 
 -- the map of two buffers that were zeroed if their sizes fit
 pub map_fresh :

@@ -4,14 +4,14 @@ use Rattle.std.specs.List.{range_with_len}
 use Rattle.bits.specs.Bits.{bits_of}
 use Rattle.allocator.specs.declared.fault.AllocatorFault.{AllocatorFault}
 use Rattle.allocator.specs.declared.fault.AllocatorFault.TheVariants.{Sizes}
-use Rattle.allocator.specs.Maps.{Cell, free, first, rest}
+use Rattle.allocator.specs.Maps.{Cell, Free, First, Rest}
 
 -- a granule by its two bits: whether it is used, and whether it is the first of a run
 abbrev pub cell_of : Bool → Bool → Cell
-cell_of true true = first
-cell_of true false = rest
-cell_of false true = free
-cell_of false false = free
+cell_of true true = First
+cell_of true false = Rest
+cell_of false true = Free
+cell_of false false = Free
 
 -- the map, granule by granule
 unfoldable pub cells_of : List Bool → List Bool → List Cell
@@ -35,7 +35,7 @@ zeroed_if fit bs = cond fit (replicate (length bs) 0) bs
 
 -- the map at construction: all granules free, and none where the sizes do not fit
 abbrev pub fresh_map : ℕ → ℕ → List Cell
-fresh_map nu nf = cond (sizes_fit nu nf) (replicate (8 * nu) free) []
+fresh_map nu nf = cond (sizes_fit nu nf) (replicate (8 * nu) Free) []
 
 -- r is the number of granules of two buffers, and what follows for their lengths
 pub record GranulesOf (us fs : List ℕ) (r : ℕ) : Type 0 where

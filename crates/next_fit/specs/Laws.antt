@@ -3,7 +3,7 @@ use Rattle.std.specs.Prelude.{◌≡◌, ℕ, zero, suc, ◌+◌, ◌-◌, ◌<�
 use Rattle.std.proofs.Common.{sym, ◌∙◌, ap, ⊎_elim, arith}
 use Rattle.std.proofs.lemmas.Bool.{cases_eq, cases_lt, cases_Bool, and_parts, and_from, cond-true, cond-false, not-true, not_from_false, both_ways}
 use Rattle.std.proofs.lemmas.List.{get_or-map, length-map, get_or_past}
-use Rattle.allocator.specs.Maps.{Cell, free, first, rest, FreeAt, Lawful}
+use Rattle.allocator.specs.Maps.{Cell, Free, First, Rest, FreeAt, Lawful}
 use Rattle.next_fit.specs.Placement.{all_free, lowest_fit, base_and_mark, is_used, next_fit}
 
 -- all n are free, one by one
@@ -59,17 +59,17 @@ none_by us n b (suc k) x e l h t =
     (cases_eq x b))
     (cases_Bool (all_free us b n))
 
-used_not : (c : Cell) → is_used c ≡ false → c ≡ free
-used_not free e = refl
-used_not first e = absurd (both_ways true e refl)
-used_not rest e = absurd (both_ways true e refl)
+used_not : (c : Cell) → is_used c ≡ false → c ≡ Free
+used_not Free e = refl
+used_not First e = absurd (both_ways true e refl)
+used_not Rest e = absurd (both_ways true e refl)
 
 -- past the end a granule counts as used
-used_at : (cs : List Cell) (i : ℕ) → slice_index_or (map is_used cs) i true ≡ is_used (slice_index_or cs i rest)
+used_at : (cs : List Cell) (i : ℕ) → slice_index_or (map is_used cs) i true ≡ is_used (slice_index_or cs i Rest)
 used_at cs i =
     ⊎_elim
-    (λ (h : i < length cs). get_or-map is_used cs i rest true h)
-    (λ (h : length cs ≤ i). get_or_past (map is_used cs) i true (omega (arith, length-map cs is_used)) ∙ sym (ap is_used (get_or_past cs i rest h)))
+    (λ (h : i < length cs). get_or-map is_used cs i Rest true h)
+    (λ (h : length cs ≤ i). get_or_past (map is_used cs) i true (omega (arith, length-map cs is_used)) ∙ sym (ap is_used (get_or_past cs i Rest h)))
     (cases_lt i (length cs))
 
 in_map : (cs : List Cell) (i : ℕ) → slice_index_or (map is_used cs) i true ≡ false → i < length cs
@@ -80,7 +80,7 @@ in_map cs i e =
     (cases_lt i (length cs))
 
 hit_free : (cs : List Cell) (n x : ℕ) → Hit (map is_used cs) n (length (map is_used cs)) x → FreeAt cs x n
-hit_free cs n x h = (ends n h.0, λ k l. used_not (slice_index_or cs (x + k) rest) (sym (used_at cs (x + k)) ∙ all_at (map is_used cs) x n k h.0 l))
+hit_free cs n x h = (ends n h.0, λ k l. used_not (slice_index_or cs (x + k) Rest) (sym (used_at cs (x + k)) ∙ all_at (map is_used cs) x n k h.0 l))
   where
     ends : (m : ℕ) → all_free (map is_used cs) x m ≡ true → x + m ≤ length cs
     ends zero e = omega (arith, h.1, length-map cs is_used)

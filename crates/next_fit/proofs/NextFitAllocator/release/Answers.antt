@@ -3,7 +3,7 @@ use lib.Seq.{paste}
 use Rattle.std.proofs.lemmas.List.Edits.{length-paste}
 use Rattle.std.proofs.lemmas.List.{length-replicate}
 use Rattle.std.proofs.lemmas.Bool.{both_ways}
-use Rattle.allocator.specs.Maps.{free}
+use Rattle.allocator.specs.Maps.{Free}
 use Rattle.next_fit.specs.Bitmaps.{map_of}
 use Rattle.next_fit.proofs.Counts.{fit_from, granules_open, map_released, releasing_whole}
 use Rattle.next_fit.proofs.NextFitAllocator.release.Goals as goal
@@ -24,9 +24,9 @@ returns c =
     let g = granules_open us fs fit in
     let w : b + n ≤ 8 * length us = c.run_at-n.ensures.within (omega arith) in
     let t = releasing_whole cs c.args.self.now.mark b n (omega arith) c.run_at-n.ensures.value in
-    let k : map_of c.free_run.new.used fs ≡ paste cs b (replicate n free) n
+    let k : map_of c.free_run.new.used fs ≡ paste cs b (replicate n Free) n
     = map_released us fs c.free_run.new.used b n fit (omega arith) w c.free_run.ensures in
-    let same : length (map_of c.free_run.new.used fs) ≡ length cs = ap length k ∙ length-paste cs b (replicate n free) n (omega arith) (omega (arith, length-replicate n free)) in
+    let same : length (map_of c.free_run.new.used fs) ≡ length cs = ap length k ∙ length-paste cs b (replicate n Free) n (omega arith) (omega (arith, length-replicate n Free)) in
     record {
       answer = sym (ap (λ o. o.answer) t);
       cells = k ∙ sym (ap (λ o. o.cells) t);
