@@ -3,7 +3,9 @@ use Rattle.std.specs.Prelude.{ℕ, ◌+◌, cond, List, replicate, Some, None, O
 use Rattle.std.proofs.Math.Seq.{paste}
 use Rattle.allocator.specs.declared.fault.AllocatorFault.{AllocatorFault}
 use Rattle.allocator.specs.declared.fault.AllocatorFault.TheVariants.{BadNum, Allowance, NoRun, NotWhole}
-use Rattle.allocator.specs.Maps.{Cell, Free, taken_in, run_length, run_of, Rule}
+use Rattle.allocator.specs.declared.cell.Cell.{Cell}
+use Rattle.allocator.specs.declared.cell.Cell.TheVariants.{Free}
+use Rattle.allocator.specs.Maps.{taken_in, run_length, run_of, Rule}
 
 -- an answer, with the map and the mark after it
 pub record Allocation : Type 0 where

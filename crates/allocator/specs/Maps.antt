@@ -1,7 +1,7 @@
 -- The map of an allocator: each granule is free, the first of a run, or one of its rest.
 use Rattle.std.specs.Prelude.{◌≡◌, ℕ, zero, suc, ◌+◌, ◌<◌, ◌≤◌, Bool, true, false, cond, List, [], ◌∷◌, length, drop, replicate, Some, None, Option, slice_index_or}
-pub use Rattle.allocator.specs.declared.cell.Cell.{Cell}
-pub use Rattle.allocator.specs.declared.cell.Cell.TheVariants.{Free, First, Rest}
+use Rattle.allocator.specs.declared.cell.Cell.{Cell}
+use Rattle.allocator.specs.declared.cell.Cell.TheVariants.{Free, First, Rest}
 
 abbrev pub is_free : Cell → Bool
 is_free Free = true

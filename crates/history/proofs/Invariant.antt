@@ -1,6 +1,7 @@
 -- What every history keeps, of the machine and its ledger.
 use Rattle.std.proofs.Common.{◌≡◌, ℕ, ◌+◌, ◌*◌, ◌/◌, ◌<◌, ◌≤◌, true, false, cond, eqb, List, [], ◌∷◌, ◌++◌, length, get_or, Some, Option}
-use Rattle.allocator.specs.Maps.{Cell, Free, First, Rest}
+use Rattle.allocator.specs.declared.cell.Cell.{Cell}
+use Rattle.allocator.specs.declared.cell.Cell.TheVariants.{Free, First, Rest}
 use Rattle.authority.specs.Capabilities.{base_of, capability_of, top_of}
 use Rattle.authority.specs.Images.{word_at}
 use Rattle.authority.specs.Masks.{all_permissions}

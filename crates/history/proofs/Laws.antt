@@ -6,7 +6,9 @@ use Rattle.std.proofs.lemmas.List.{get_or_default, get_or-drop, get_or-map, get_
 use Rattle.std.proofs.lemmas.Bool.{and_from, cases_Bool, cases_eq, cases_lt, cond-false, cond-true, eq-eqb, le-leb, lt-ltb, ne_eqb, or_left, or_right}
 use Rattle.std.proofs.lemmas.Bool.Decides.{nat_tests}
 use Rattle.allocator.specs.Allocators.{Allocation, releasing}
-use Rattle.allocator.specs.Maps.{Cell, Free, First, Rest, is_first, rests_in_front, run_length, run_of}
+use Rattle.allocator.specs.declared.cell.Cell.{Cell}
+use Rattle.allocator.specs.declared.cell.Cell.TheVariants.{Free, First, Rest}
+use Rattle.allocator.specs.Maps.{is_first, rests_in_front, run_length, run_of}
 use Rattle.authority.specs.Capabilities.{Authority, base_of, top_of, permissions_of, capability_of, meet_authority}
 use Rattle.authority.specs.Images.{image_of, word_at}
 use Rattle.authority.specs.PermissionsMeet.{permissions_from}

@@ -2,7 +2,8 @@
 use Rattle.std.proofs.Common.{◌≡◌, ℕ, ◌+◌, ◌-◌, ◌<◌, ◌≤◌, Bool, true, false, cond, eqb, ◌⊎◌, List, [], ◌∷◌, ◌++◌, length, get_or, Ok, sym, refl, ap, ◌∙◌, subst, inl, inr, add-zero, arith}
 use Rattle.std.proofs.lemmas.List.{append_assoc, append-nil, get_or_default}
 use Rattle.std.proofs.lemmas.Bool.{cases_Bool, cond-true, cond-false}
-use Rattle.allocator.specs.Maps.{First, Free, Rest, FreeAt}
+use Rattle.allocator.specs.declared.cell.Cell.TheVariants.{Free, First, Rest}
+use Rattle.allocator.specs.Maps.{FreeAt}
 use Rattle.authority.specs.Capabilities.{base_of}
 use Rattle.machine.specs.Calls.{Call}
 use Rattle.machine.specs.Model.{Effect, Fixed, State, fresh_state, outcome, state_after}

@@ -1,7 +1,9 @@
 -- Room for a new run, and the bytes of its granules.
 use Rattle.std.proofs.Common.{◌≡◌, ℕ, zero, suc, ◌+◌, ◌-◌, ◌*◌, ◌/◌, ◌<◌, ◌≤◌, Bool, true, ◌&&◌, ltb, leb, List, [], ◌∷◌, length, get_or, sym, refl, ◌∙◌, subst, inl, inr, arith}
 use Rattle.std.proofs.lemmas.Bool.{and_parts, cases_Bool, le-leb, leb-false, leb-true, ltb-true}
-use Rattle.allocator.specs.Maps.{Cell, FreeAt, Free, Rest}
+use Rattle.allocator.specs.declared.cell.Cell.{Cell}
+use Rattle.allocator.specs.declared.cell.Cell.TheVariants.{Free, Rest}
+use Rattle.allocator.specs.Maps.{FreeAt}
 
 -- room for a run of n granules at b
 

@@ -2,7 +2,9 @@
 use Rattle.std.proofs.Common.{◌≡◌, ℕ, ◌+◌, ◌-◌, ◌*◌, ◌/◌, ◌<◌, ◌≤◌, Bool, true, false, cond, ◌&&◌, eqb, ltb, leb, List, get_or, set, Some, None, Option, sym, refl, ap, ◌∙◌, subst, inl, inr, arith}
 use lib.Seq.{paste}
 use Rattle.std.proofs.lemmas.Bool.{cases_Bool, cond-false, cond-true, eq-eqb, eqb-true, ne_eqb}
-use Rattle.allocator.specs.Maps.{Cell, Free, First, Rest, run_of}
+use Rattle.allocator.specs.declared.cell.Cell.{Cell}
+use Rattle.allocator.specs.declared.cell.Cell.TheVariants.{Free, First, Rest}
+use Rattle.allocator.specs.Maps.{run_of}
 use Rattle.authority.specs.Capabilities.{base_of, top_of}
 use Rattle.authority.specs.Images.{word_at}
 use Rattle.authority.specs.declared.capability.Capability.{Capability}

@@ -1,6 +1,7 @@
 -- Memory returns exactly when the sweep ends.
 use Rattle.std.specs.Prelude.{◌≡◌, ℕ, ◌+◌, ◌/◌, ◌<◌, ◌≤◌, List, [], ◌∷◌, ◌++◌, Ok, Err, slice_index_or}
-use Rattle.allocator.specs.Maps.{Free, run_length}
+use Rattle.allocator.specs.declared.cell.Cell.TheVariants.{Free}
+use Rattle.allocator.specs.Maps.{run_length}
 use Rattle.machine.specs.Calls.{Call}
 use Rattle.machine.specs.Model.{Fixed, State}
 use Rattle.quarantine.specs.declared.run.Run.{Run}

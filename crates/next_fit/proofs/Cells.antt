@@ -5,7 +5,9 @@ use Rattle.std.proofs.lemmas.List.FromFn.{length-map-range_with_len, get_or-map-
 use Rattle.std.proofs.lemmas.List.Edits.{length-paste}
 use Rattle.std.proofs.lemmas.List.{places, ext_get_or, length-replicate, get_or-replicate, get_or-set_same, get_or-set_other, get_or-map, length-map, get_or_past}
 use Rattle.std.proofs.lemmas.Bool.{cases_eq, cases_lt, cond-true, le-leb}
-use Rattle.allocator.specs.Maps.{Cell, Free, First, Rest, run_of}
+use Rattle.allocator.specs.declared.cell.Cell.{Cell}
+use Rattle.allocator.specs.declared.cell.Cell.TheVariants.{Free, First, Rest}
+use Rattle.allocator.specs.Maps.{run_of}
 use Rattle.bits.specs.Bits.{filled}
 use Rattle.next_fit.specs.Bitmaps.{cell_of, cells_of}
 use Rattle.next_fit.specs.Placement.{is_used}

@@ -1,14 +1,19 @@
 -- The map of two buffers whose sizes fit: its length, its taken granules, and its changes.
-use Rattle.std.proofs.Common.{◌≡◌, ℕ, suc, ◌+◌, ◌*◌, ◌/◌, ◌%◌, ◌^◌, ◌<◌, ◌≤◌, Bool, true, false, cond, ◌&&◌, eqb, leb, List, [], ◌∷◌, map, length, get_or, drop, set, replicate, IfSome, Some, None, Ok, Option, sym, refl, ap, ◌∙◌, arith}
+use Rattle.std.proofs.Common.{inl, inr, zero, Err, ◌==◌, nat_lt, count_by, ◌≡◌, ℕ, suc, ◌+◌, ◌*◌, ◌/◌, ◌%◌, ◌^◌, ◌<◌, ◌≤◌, Bool, true, false, cond, ◌&&◌, eqb, leb, List, [], map, length, get_or, drop, set, replicate, IfSome, Some, None, Ok, Option, sym, refl, ap, ◌∙◌, arith}
 use lib.Seq.{paste}
 use native.Mathlib.Nat.{zero-div}
 use Rattle.std.proofs.lemmas.List.FromFn.{get_or-map-range_with_len}
-use Rattle.std.proofs.lemmas.List.{at_drop_more, at_drop_all, nil_from_length, ext_get_or, length-replicate, get_or-replicate}
-use Rattle.std.proofs.lemmas.Bool.{eqb-true, leb-true, and_parts, cond-true, cond-false, ne_eqb, le-ltb, lt-ltb}
-use Rattle.allocator.specs.Allocators.{allocating, releasing}
-use Rattle.allocator.specs.Maps.{Cell, Free, First, Rest, taken_in, run_length, run_of, Rule}
+use Rattle.std.proofs.lemmas.List.{get_or-map, length-map, get_or_past, get_or_default, at_drop_more, at_drop_all, ext_get_or, length-replicate, get_or-replicate}
+use Rattle.std.proofs.lemmas.Bool.{eqb-true, eqb-false, ltb-false, leb-true, and_parts, cases_Bool, cases_lt, cond-true, cond-false, ne_eqb, le-ltb, lt-ltb}
+use Rattle.std.proofs.lemmas.List.Sums.{sum_by-cons}
+use Rattle.std.specs.List.{range_with_len}
+use Rattle.allocator.specs.Allocators.{admitting, allocating, releasing}
+use Rattle.allocator.specs.declared.fault.AllocatorFault.TheVariants.{Allowance, BadNum}
+use Rattle.allocator.specs.declared.cell.Cell.{Cell}
+use Rattle.allocator.specs.declared.cell.Cell.TheVariants.{Free, First, Rest}
+use Rattle.allocator.specs.Maps.{is_free, taken_in, run_length, run_of, Rule}
 use Rattle.bits.specs.Bits.{bit_at, bits_of, filled, length_bits}
-use Rattle.next_fit.specs.Bitmaps.{GranulesOf, cell_of, cells_of, count_set, fresh_map, map_of, sizes_fit, zeroed_if}
+use Rattle.next_fit.specs.Bitmaps.{cell_of, cells_of, fresh_map, granules_of, map_of, sizes_fit, zeroed_if}
 use Rattle.next_fit.specs.Laws.{next_fit_lawful}
 use Rattle.next_fit.specs.Placement.{is_used, next_fit}
 use Rattle.next_fit.proofs.Cells.{cell_at, cell_free, cells_freed, cells_run, filled_run, length_cells, used_cells}
@@ -27,45 +32,76 @@ fit_from nu nf e =
 pub map_open : (us fs : List ℕ) → sizes_fit (length us) (length fs) ≡ true → map_of us fs ≡ cells_of (bits_of us) (bits_of fs)
 map_open us fs e = cond-true (sizes_fit (length us) (length fs)) (cells_of (bits_of us) (bits_of fs)) [] e
 
-pub granules_open : (us fs : List ℕ) → sizes_fit (length us) (length fs) ≡ true → GranulesOf us fs (8 * length us)
-granules_open us fs e =
-    let f = fit_from (length us) (length fs) e in
-    let s = f.same in
-    let m = f.small in
-    record {
-      count = rw (map_open us fs e) (sym (length_cells (bits_of us) (bits_of fs) ∙ length_bits us));
-      small = omega arith;
-      opens = λ _. map_open us fs e;
-      fits = λ _. e;
-      used = λ _. refl;
-      firsts = λ _. omega arith;
-    }
+-- the granules of two buffers, where there are some
+pub record Opened (us fs : List ℕ) (r : ℕ) : Type 0 where
+  pub fits : sizes_fit (length us) (length fs) ≡ true
+  pub opens : map_of us fs ≡ cells_of (bits_of us) (bits_of fs)
+  pub used : 8 * length us ≡ r
+  pub firsts : 8 * length fs ≡ r
+  pub small : r ≤ 1024
 
-taken_used : (cs : List Cell) → taken_in cs ≡ count_set (map is_used cs)
-unfolding taken_in
-taken_used [] = refl
-taken_used (Free ∷ cs) = taken_used cs
-taken_used (First ∷ cs) = ap suc (taken_used cs)
-taken_used (Rest ∷ cs) = ap suc (taken_used cs)
+pub opened : (us fs : List ℕ) (r : ℕ) → r ≡ granules_of (length us) (length fs) → 0 < r → Opened us fs r
+opened us fs r e h =
+    elim (cases_Bool (sizes_fit (length us) (length fs))) [
+      | inl t ↦ (
+          let f = fit_from (length us) (length fs) t in
+          let s = f.same in
+          let m = f.small in
+          let q : r ≡ 8 * length us = e ∙ cond-true _ _ _ t in
+          record { fits = t; opens = map_open us fs t; used = sym q; firsts = omega arith; small = omega arith }
+          )
+      | inr n ↦ (let q : r ≡ 0 = e ∙ cond-false _ _ _ n in absurd (let f : ⊥ = omega arith in f))
+    ]
 
--- the taken granules are those whose used bit is set
-pub taken_cells : (us fs : List Bool) → taken_in (cells_of us fs) ≡ count_set us
-taken_cells us fs = taken_used (cells_of us fs) ∙ ap count_set (used_cells us fs)
+pub small : (us fs : List ℕ) (r : ℕ) → r ≡ granules_of (length us) (length fs) → r ≤ 1024
+small us fs r e = elim (cases_lt 0 r) [ inl h ↦ (opened us fs r e h).small | inr h ↦ (omega arith) ]
 
-pub count_more : (us : List Bool) (i : ℕ) → i < length us → count_set (drop i us) ≡ cond (get_or us i false) 1 0 + count_set (drop (i + 1) us)
-count_more us i h = at_drop_more count_set us i false h ∙ one_more (get_or us i false) (count_set (drop (i + 1) us))
+pub counted : (us fs : List ℕ) (r : ℕ) → r ≡ granules_of (length us) (length fs) → r ≡ length (map_of us fs)
+counted us fs r e =
+    elim (cases_Bool (sizes_fit (length us) (length fs))) [
+      | inl t ↦ (e ∙ cond-true _ _ _ t ∙ sym (ap length (map_open us fs t) ∙ (length_cells (bits_of us) (bits_of fs) ∙ length_bits us)))
+      | inr n ↦ (e ∙ cond-false _ _ _ n ∙ sym (ap length (cond-false (sizes_fit (length us) (length fs)) (cells_of (bits_of us) (bits_of fs)) [] n)))
+    ]
+
+pub cell_past : (us fs : List ℕ) (r g : ℕ) → r ≡ granules_of (length us) (length fs) → r ≤ g → Free ≡ get_or (map_of us fs) g Free
+cell_past us fs r g e h = sym (get_or_past (map_of us fs) g Free (omega (arith, counted us fs r e)))
+
+pub cell_there : (us fs : List ℕ) (r g : ℕ) → r ≡ granules_of (length us) (length fs) → g < r → cell_of (get_or (bits_of us) g false) (get_or (bits_of fs) g false) ≡ get_or (map_of us fs) g Free
+cell_there us fs r g e h =
+    let o = opened us fs r e (omega arith) in
+    sym (ap (λ cs. get_or cs g Free) o.opens ∙ cell_at (bits_of us) (bits_of fs) g)
+
+pub cell_is :
+    (us fs : List ℕ) (r g : ℕ) (u f : Bool) → r ≡ granules_of (length us) (length fs) → g < r →
+    u ≡ get_or (bits_of us) g false → f ≡ get_or (bits_of fs) g false → cell_of u f ≡ get_or (map_of us fs) g Free
+cell_is us fs r g u f e h p q = rw (p, q) (cell_there us fs r g e h)
+
+pub taken_past : (us fs : List ℕ) (r g : ℕ) → r ≡ granules_of (length us) (length fs) → r ≤ g → true ≡ get_or (map is_used (map_of us fs)) g true
+taken_past us fs r g e h = sym (get_or_past (map is_used (map_of us fs)) g true (omega (arith, counted us fs r e, length-map (map_of us fs) is_used)))
+
+pub taken_there : (us fs : List ℕ) (r g : ℕ) → r ≡ granules_of (length us) (length fs) → g < r → get_or (bits_of us) g false ≡ get_or (map is_used (map_of us fs)) g true
+taken_there us fs r g e h =
+    let o = opened us fs r e (omega arith) in
+    get_or_default (bits_of us) g false true (omega (arith, length_bits us, o.used))
+    ∙ sym (ap (λ cs. get_or (map is_used cs) g true) o.opens ∙ ap (λ xs. get_or xs g true) (used_cells (bits_of us) (bits_of fs)))
+
+-- buffers of the same sizes have as many granules
+pub length_same : (us fs vs gs : List ℕ) → length vs ≡ length us → length gs ≡ length fs → length (map_of vs gs) ≡ length (map_of us fs)
+length_same us fs vs gs p q =
+    sym (counted vs gs (granules_of (length vs) (length gs)) refl) ∙ rw (p, q) (counted us fs (granules_of (length us) (length fs)) refl)
+
+-- what is known where n granules were admitted
+pub record Admitted (cs : List Cell) (most n : ℕ) : Type 0 where
+  pub some : 0 < n
+  pub room : taken_in cs + n ≤ most
+
+pub admitted : (cs : List Cell) (most n : ℕ) (u : Unit {0}) → Ok u ≡ admitting cs most n → Admitted cs most n
+admitted cs most n u e = go (n == 0) (nat_lt most (taken_in cs + n)) refl refl e
   where
-    one_more : (u : Bool) (n : ℕ) → cond u (suc n) n ≡ cond u 1 0 + n
-    one_more true n = omega arith
-    one_more false n = omega arith
-
-pub count_all : (us : List Bool) (i : ℕ) → length us ≤ i → count_set (drop i us) ≡ 0
-count_all us i h = at_drop_all count_set us i h
-
--- no granules: none is taken
-pub none_taken : (cs : List Cell) → length cs ≡ 0 → 0 ≡ taken_in cs
-unfolding taken_in
-none_taken cs e = let z = nil_from_length cs e in sym (ap taken_in z)
+    go : (x y : Bool) → x ≡ (n == 0) → y ≡ nat_lt most (taken_in cs + n) → Ok u ≡ cond x (Err BadNum) (cond y (Err Allowance) (Ok u)) → Admitted cs most n
+    go true y p q r = absurd (let z : ◌≡◌ {A = ℕ} 0 1 = cc in let f : ⊥ = omega arith in f)
+    go false true p q r = absurd (let z : ◌≡◌ {A = ℕ} 0 1 = cc in let f : ⊥ = omega arith in f)
+    go false false p q r = record { some = omega (arith, eqb-false n 0 (sym p)); room = ltb-false most (taken_in cs + n) (sym q) }
 
 -- an allocation that is accepted
 pub allocating_placed :
@@ -143,3 +179,28 @@ map_fresh us fs vs gs true e p q =
     (map_open (replicate (length us) 0) (replicate (length fs) 0) (rw (lu, lf) (sym e))
     ∙ (cells_fresh (length us) (length fs) ∙ sym (cond-true _ _ _ (sym e))))
 map_fresh us fs vs gs false e p q = rw (p, q) (cond-false _ _ _ (sym e) ∙ sym (cond-false _ _ _ (sym e)))
+
+-- the taken granules, as the places of a range at which a test says so
+taken_range :
+    (cs : List Cell) (p : ℕ → Bool) (i k : ℕ) → i + k ≡ length cs → ((g : ℕ) → g < length cs → p g ≡ is_used (get_or cs g Free)) →
+    count_by p (range_with_len i k) ≡ taken_in (drop i cs)
+unfolding taken_in
+taken_range cs p i zero e f = sym (at_drop_all taken_in cs i (omega arith))
+taken_range cs p i (suc k) e f =
+    sum_by-cons (λ g. cond {A = ℕ} (p g) 1 0) i (range_with_len (i + 1) k)
+    ∙ one_more (p i) (get_or cs i Free) _ _ (f i (omega arith)) (taken_range cs p (i + 1) k (omega arith) f)
+    ∙ sym (at_drop_more taken_in cs i Free (omega arith))
+  where
+    one_more : (t : Bool) (x : Cell) (m n : ℕ) → t ≡ is_used x → m ≡ n → cond t 1 0 + m ≡ cond (is_free x) n (suc n)
+    one_more t Free m n q h = rw q (omega arith)
+    one_more t First m n q h = rw q (omega arith)
+    one_more t Rest m n q h = rw q (omega arith)
+
+pub taken_counted :
+    (us fs : List ℕ) (r : ℕ) → r ≡ granules_of (length us) (length fs) →
+    count_by (λ g. get_or (bits_of us) g false) (range_with_len 0 r) ≡ taken_in (map_of us fs)
+taken_counted us fs r e =
+    taken_range (map_of us fs) (λ g. get_or (bits_of us) g false) 0 r (omega (arith, counted us fs r e))
+    (λ g h.
+    let below : g < r = omega (arith, counted us fs r e) in
+    taken_there us fs r g e below ∙ get_or-map is_used (map_of us fs) g Free true h)

@@ -1,7 +1,7 @@
 -- The steps of a search for free granules.
-use Rattle.std.proofs.Common.{◌≡◌, ℕ, zero, suc, ◌+◌, ◌-◌, ◌<◌, ◌≤◌, Bool, true, false, not, List, get_or, Some, None, sym, ap, ◌∙◌, ⊎_elim, add-one, arith}
+use Rattle.std.proofs.Common.{Option, length, refl, ◌≡◌, ℕ, zero, suc, ◌+◌, ◌-◌, ◌<◌, ◌≤◌, Bool, true, false, not, List, get_or, Some, None, sym, ap, ◌∙◌, ⊎_elim, add-one, arith}
 use Rattle.std.proofs.lemmas.Bool.{cases_eq, cases_lt, and_left, and_right, and_from, cond-true, cond-false, not_from_true, not_from_false}
-use Rattle.next_fit.specs.Placement.{all_free, lowest_fit}
+use Rattle.next_fit.specs.Placement.{all_free, base_and_mark, lowest_fit, place_of}
 
 -- a taken granule among the n from b on
 pub taken_among : (us : List Bool) (b n i : ℕ) → i < n → get_or us (b + i) true ≡ true → all_free us b n ≡ false
@@ -50,3 +50,13 @@ pub lowest_hit : (us : List Bool) (n b all : ℕ) → b < all → all_free us b 
 lowest_hit us n b all h e =
     let k : all - b ≡ suc (all - (b + 1)) = omega arith in
     rw k (cond-true (all_free us b n) (Some b) (lowest_fit us n (b + 1) (all - (b + 1))) e)
+
+-- what two searches answer together
+pub place_from :
+    (us : List Bool) (all m n : ℕ) (p q : Option ℕ) → all ≡ length us → p ≡ lowest_fit us n m (all - m) → q ≡ lowest_fit us n 0 (all - 0) →
+    base_and_mark n p (base_and_mark n q None) ≡ place_of us m n
+place_from us all m n p q l e f =
+    let z : all - 0 ≡ length us = omega arith in
+    let e' : p ≡ lowest_fit us n m (length us - m) = e ∙ ap (λ k. lowest_fit us n m (k - m)) l in
+    let f' : q ≡ lowest_fit us n 0 (length us) = f ∙ ap (λ k. lowest_fit us n 0 k) z in
+    rw (e', f') refl

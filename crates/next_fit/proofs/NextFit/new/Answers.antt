@@ -1,16 +1,10 @@
-use Rattle.std.proofs.Common.{refl, rules}
+use Rattle.std.proofs.Common.{length, refl, rules}
+use Rattle.next_fit.specs.Bitmaps.{sizes_fit}
 use Rattle.next_fit.proofs.Counts.{map_fresh}
 use Rattle.next_fit.proofs.NextFit.new.Goals as goal
 
-pub returns : goal.returns
-returns c =
+pub returns-clause-map : goal.returns-clause-map
+returns-clause-map c =
     let us = c.args.used.now in
     let fs = c.args.firsts.now in
-    record {
-      used = search rules;
-      firsts = search rules;
-      same_used = refl;
-      same_firsts = refl;
-      map = map_fresh us fs c.reset.new.buffer c.reset-2.new.buffer c.fits-fit.result c.fits-fit.ensures c.reset.ensures c.reset-2.ensures;
-      mark = refl;
-    }
+    map_fresh us fs c.match-check_sizes.used c.match-check_sizes.firsts (sizes_fit (length us) (length fs)) refl (search rules) (search rules)

@@ -1,38 +1,38 @@
-use Rattle.std.proofs.Common.{◌≡◌, ◌+◌, ◌*◌, ◌≤◌, true, length, sym, refl, ap, ◌∙◌, arith}
-use lib.Seq.{paste}
-use Rattle.std.proofs.lemmas.List.Edits.{length-paste}
-use Rattle.std.proofs.lemmas.Bool.{both_ways, ltb-false}
-use Rattle.allocator.specs.Maps.{run_of}
+use Rattle.std.proofs.Common.{◌+◌, ◌≤◌, length, sym, ap, ◌∙◌, arith}
 use Rattle.next_fit.specs.Bitmaps.{map_of}
 use Rattle.next_fit.specs.Placement.{next_fit}
-use Rattle.next_fit.proofs.Cells.{length_run}
-use Rattle.next_fit.proofs.Counts.{allocating_placed, map_allocated}
+use Rattle.next_fit.proofs.Counts.{admitted, allocating_placed, counted, length_same, map_allocated, opened}
 use Rattle.next_fit.proofs.NextFitAllocator.allocate.Goals as goal
 
-pub returns : goal.returns
-returns c =
-    let us = c.args.self.now.used.now in
-    let fs = c.args.self.now.firsts.now in
+pub find-requires-clause-within : goal.find-requires-clause-within
+find-requires-clause-within c =
+    let s = c.args.self.now in
+    let cs = map_of s.used.now s.firsts.now in
+    omega (arith, (admitted cs (length cs) c.args.n c.in_ok-admit.field-0 c.in_ok-admit.ensures).room, counted s.used.now s.firsts.now s.granules s.sized)
+
+pub returns-clause-cells : goal.returns-clause-cells
+returns-clause-cells c =
+    let s = c.args.self.now in
+    let us = s.used.now in
+    let fs = s.firsts.now in
     let cs = map_of us fs in
-    let m = c.args.self.now.mark in
     let n = c.args.n in
     let b = c.in-Some.b in
-    let all = c.count-all.result in
-    let room = ltb-false all (c.taken-taken.result + n) (sym c.if-exceeds.ensures) in
+    let a = admitted cs (length cs) n c.in_ok-admit.field-0 c.in_ok-admit.ensures in
+    let some = a.some in
+    let all = counted us fs s.granules s.sized in
     let w : b + n ≤ length cs = c.in-Some.ensures.within in
-    let hu : 8 * length us ≡ all = c.count-all.ensures.used (omega arith) in
-    let hf : 8 * length fs ≡ all = c.count-all.ensures.firsts (omega arith) in
-    let fit = c.count-all.ensures.fits (omega arith) in
-    let t = allocating_placed next_fit cs m (length cs) n (b, c.in-Some.mark) (omega arith) (omega arith) c.in-Some.ensures.value in
-    let k : map_of c.fill.new.bits c.begin_run.new.firsts ≡ paste cs b (run_of n) n
-    = map_allocated us fs c.fill.new.bits c.begin_run.new.firsts b n fit (omega arith) (omega arith) (omega arith) (omega arith) (omega arith) c.fill.ensures c.begin_run.ensures in
-    let same : length (map_of c.fill.new.bits c.begin_run.new.firsts) ≡ length cs = ap length k ∙ length-paste cs b (run_of n) n w (omega (arith, length_run n)) in
-    record {
-      answer = sym (ap (λ o. o.answer) t);
-      cells = k ∙ sym (ap (λ o. o.cells) t);
-      mark = sym (ap (λ o. o.mark) t);
-      most = same;
-      size = same;
-      inside = w;
-      denied = λ e. absurd (both_ways true e refl);
-    }
+    let o = opened us fs s.granules s.sized (omega arith) in
+    let hu = o.used in
+    let hf = o.firsts in
+    let t = allocating_placed next_fit cs s.mark (length cs) n (b, c.in-Some.mark) some a.room c.in-Some.ensures.value in
+    map_allocated us fs c.fill.new.bits c.begin_run.new.firsts b n o.fits (omega arith) (omega arith) some (omega arith) (omega arith) c.fill.ensures c.begin_run.ensures
+    ∙ sym (ap (λ o. o.cells) t)
+
+pub returns-clause-most : goal.returns-clause-most
+returns-clause-most c =
+    length_same c.args.self.now.used.now c.args.self.now.firsts.now c.fill.new.bits c.begin_run.new.firsts (omega arith) (omega arith)
+
+pub returns-clause-size : goal.returns-clause-size
+returns-clause-size c =
+    length_same c.args.self.now.used.now c.args.self.now.firsts.now c.fill.new.bits c.begin_run.new.firsts (omega arith) (omega arith)
