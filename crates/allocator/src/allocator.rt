@@ -30,6 +30,7 @@ pub trait Allocator {
         ensures { result ≡ most self.now };
 
     // The length of the run that begins at granule b, or 0.
+    // Kept as it is: that the length is 0 where no run begins is a rule of the project.
     fn length_at(&self, b: usize) -> usize
         ensures { result ≡ run_length (cells self.now) b };
 

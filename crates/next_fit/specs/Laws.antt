@@ -29,20 +29,14 @@ all_from us b (suc n) f =
 abbrev Hit : List Bool → ℕ → ℕ → ℕ → Type 0
 Hit us n top x = (all_free us x n ≡ true) × (x < top)
 
-some_is : (x y : ℕ) → Some x ≡ Some y → x ≡ y
-some_is x y e = cc
-
-some_not_none : {X : Type 0} (x : X) → Some x ≢ None
-some_not_none x e = let z : ◌≡◌ {A = ℕ} 0 1 = cc in omega arith
-
 -- what a search answers is a hit
 found_by : (us : List Bool) (n b k x : ℕ) → lowest_fit us n b k ≡ Some x → Hit us n (b + k) x
-found_by us n b zero x e = absurd (some_not_none x (sym e))
+found_by us n b zero x e = absurd cc
 found_by us n b (suc k) x e =
     let next = lowest_fit us n (b + 1) k in
     ⊎_elim
     (λ (t : all_free us b n ≡ true).
-    let q : b ≡ x = some_is b x (sym (cond-true (all_free us b n) (Some b) next t) ∙ e) in (rw (sym q) t, omega arith))
+    let s : Some b ≡ Some x = sym (cond-true (all_free us b n) (Some b) next t) ∙ e in let q : b ≡ x = cc in (rw (sym q) t, omega arith))
     (λ (t : all_free us b n ≡ false).
     let r = found_by us n (b + 1) k x (sym (cond-false (all_free us b n) (Some b) next t) ∙ e) in (r.0, omega (arith, r.1)))
     (cases_Bool (all_free us b n))
@@ -53,7 +47,7 @@ none_by us n b zero x e l h t = omega arith
 none_by us n b (suc k) x e l h t =
     let next = lowest_fit us n (b + 1) k in
     ⊎_elim
-    (λ (a : all_free us b n ≡ true). some_not_none b (sym (cond-true (all_free us b n) (Some b) next a) ∙ e))
+    (λ (a : all_free us b n ≡ true). let s : ◌≡◌ {A = Option ℕ} (Some b) None = sym (cond-true (all_free us b n) (Some b) next a) ∙ e in cc)
     (λ (a : all_free us b n ≡ false).
     ⊎_elim
     (λ (q : x ≡ b). both_ways (all_free us b n) a (rw (sym q) t))
@@ -63,8 +57,8 @@ none_by us n b (suc k) x e l h t =
 
 used_not : (c : Cell) → is_used c ≡ false → c ≡ Free
 used_not Free e = refl
-used_not First e = absurd (both_ways true e refl)
-used_not Rest e = absurd (both_ways true e refl)
+used_not First e = absurd cc
+used_not Rest e = absurd cc
 
 -- past the end a granule counts as used
 used_at : (cs : List Cell) (i : ℕ) → slice_index_or (map is_used cs) i true ≡ is_used (slice_index_or cs i Rest)
@@ -97,16 +91,14 @@ either_hit :
     ((x : ℕ) → p ≡ Some x → Hit us n top x) → ((x : ℕ) → q ≡ Some x → Hit us n top x) →
     base_and_mark n p (base_and_mark n q None) ≡ Some (b, next) → Hit us n top b
 either_hit us n top b next (Some x) q f g e =
-    let v : ◌≡◌ {A = ℕ × ℕ} (x, x + n) (b, next) = cc in
-    let w : x ≡ b = ap (λ (t : ℕ × ℕ). t.0) v in rw (sym w) (f x refl)
+    let v : ◌≡◌ {A = ℕ × ℕ} (x, x + n) (b, next) = cc in rw (sym (ap (λ (t : ℕ × ℕ). t.0) v)) (f x refl)
 either_hit us n top b next None (Some x) f g e =
-    let v : ◌≡◌ {A = ℕ × ℕ} (x, x + n) (b, next) = cc in
-    let w : x ≡ b = ap (λ (t : ℕ × ℕ). t.0) v in rw (sym w) (g x refl)
-either_hit us n top b next None None f g e = absurd (some_not_none (b, next) (sym e))
+    let v : ◌≡◌ {A = ℕ × ℕ} (x, x + n) (b, next) = cc in rw (sym (ap (λ (t : ℕ × ℕ). t.0) v)) (g x refl)
+either_hit us n top b next None None f g e = absurd cc
 
 neither : (n : ℕ) (p q : Option ℕ) → base_and_mark n p (base_and_mark n q None) ≡ None → q ≡ None
-neither n (Some x) q e = absurd (some_not_none (x, x + n) e)
-neither n None (Some x) e = absurd (some_not_none (x, x + n) e)
+neither n (Some x) q e = absurd cc
+neither n None (Some x) e = absurd cc
 neither n None None e = refl
 
 from_mark : (us : List Bool) (n m x : ℕ) → lowest_fit us n m (length us - m) ≡ Some x → Hit us n (length us) x
@@ -115,7 +107,7 @@ from_mark us n m x e =
     (λ (h : m < length us). let r = found_by us n m (length us - m) x e in (r.0, omega (arith, r.1)))
     (λ (h : length us ≤ m).
     let o : length us - m ≡ 0 = omega arith in
-    let w : ◌≡◌ {A = Option ℕ} None (Some x) = simp o at e in absurd (some_not_none x (sym w)))
+    let w : ◌≡◌ {A = Option ℕ} None (Some x) = simp o at e in absurd cc)
     (cases_lt m (length us))
 
 from_zero : (us : List Bool) (n x : ℕ) → lowest_fit us n 0 (length us) ≡ Some x → Hit us n (length us) x

@@ -6,20 +6,18 @@ ghost use Rattle.next_fit.specs.Bitmaps.{fresh_map, granules_of, map_of, sizes_a
 ghost use Rattle.next_fit.specs.Laws.{next_fit_lawful};
 ghost use Rattle.next_fit.specs.Placement.{next_fit};
 
+use crate::runs::count_taken;
 use allocator::allocator::Allocator;
 use allocator::fault::AllocatorFault;
-use bits::fill;
+use bits::{fill, put};
 
 mod runs;
 mod search;
-mod sizes;
 #[cfg(test)]
 mod tests;
 
-use crate::runs::{begin_run, count_taken};
-use crate::sizes::fits;
-
 // Bit g of `used` says that granule g is not free, and bit g of `firsts` that it is the first of a run, where it is used.
+// Kept as it is: the bits lie in two lent buffers, since the project takes no memory from a heap.
 #[derive(Drop)]
 pub struct NextFit<'a> {
     used: &'a mut [u8],
@@ -31,12 +29,13 @@ pub struct NextFit<'a> {
 }
 
 impl<'a> NextFit<'a> {
-    // The number of granules that the two buffers are for.
+    // The number of granules that the two buffers are for: both alike, and for a multiple of 16 granules from 16 to 1,024.
     pub fn check_sizes(used: &[u8], firsts: &[u8]) -> Result<usize, AllocatorFault>
         ensures { result ≡ sizes_answer (length used.now) (length firsts.now) }
     {
-        if fits(used.len(), firsts.len()) {
-            Ok(8 * used.len())
+        let bytes = used.len();
+        if bytes == firsts.len() && bytes % 2 == 0 && bytes >= 2 && bytes <= 128 {
+            Ok(8 * bytes)
         } else {
             Err(AllocatorFault::Sizes)
         }
@@ -100,8 +99,10 @@ impl<'a> Allocator for NextFit<'a> {
         let Some((b, mark)) = self.find(n) else {
             return Err(AllocatorFault::NoRun);
         };
-        fill(&mut *self.used, b, b + n, true);
-        begin_run(&mut *self.firsts, b, b + n);
+        let end = b + n;
+        fill(&mut *self.used, b, end, true);
+        fill(&mut *self.firsts, b, end, false);
+        put(&mut *self.firsts, b, true);
         self.mark = mark;
         Ok(b)
     }

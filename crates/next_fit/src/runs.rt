@@ -8,7 +8,7 @@ ghost use Rattle.next_fit.specs.Bitmaps.{map_of};
 
 use crate::NextFit;
 use allocator::cell::Cell;
-use bits::{fill, get, put};
+use bits::get;
 
 impl<'a> NextFit<'a> {
     // What granule g is; past the last it counts as free.
@@ -52,12 +52,4 @@ pub(crate) fn count_taken(used: &[u8], n: usize) -> usize
     ensures { result ≡ count_by (λ g. slice_index_or (bits_of used.now) g false) (range_with_len 0 n) }
 {
     (0..n).filter(|g| get(used, *g)).count()
-}
-
-// Among the granules from b up to `end` only b is a first.
-pub(crate) fn begin_run(firsts: &mut [u8], b: usize, end: usize)
-    ensures { bits_of firsts.new ≡ slice_set (filled (bits_of firsts.old) b end false) b true }
-{
-    fill(firsts, b, end, false);
-    put(firsts, b, true);
 }

@@ -1,4 +1,4 @@
-use Rattle.std.proofs.Common.{◌+◌, ◌≤◌, length, sym, ap, ◌∙◌, arith}
+use Rattle.std.proofs.Common.{true, slice_set, ◌+◌, ◌≤◌, length, sym, ap, ◌∙◌, arith}
 use Rattle.next_fit.specs.Bitmaps.{map_of}
 use Rattle.next_fit.specs.Placement.{next_fit}
 use Rattle.next_fit.proofs.Counts.{admitted, allocating_placed, counted, length_same, map_allocated, opened}
@@ -26,13 +26,13 @@ returns-clause-cells c =
     let hu = o.used in
     let hf = o.firsts in
     let t = allocating_placed next_fit cs s.mark (length cs) n (b, c.in-Some.mark) some a.room c.in-Some.ensures.value in
-    map_allocated us fs c.fill.new.bits c.begin_run.new.firsts b n o.fits (omega arith) (omega arith) some (omega arith) (omega arith) c.fill.ensures c.begin_run.ensures
+    map_allocated us fs c.fill.new.bits c.put.new.bits b n o.fits (omega arith) (omega arith) some (omega arith) (omega arith) c.fill.ensures (c.put.ensures ∙ ap (λ xs. slice_set xs b true) c.fill-2.ensures)
     ∙ sym (ap (λ o. o.cells) t)
 
 pub returns-clause-most : goal.returns-clause-most
 returns-clause-most c =
-    length_same c.args.self.now.used.now c.args.self.now.firsts.now c.fill.new.bits c.begin_run.new.firsts (omega arith) (omega arith)
+    length_same c.args.self.now.used.now c.args.self.now.firsts.now c.fill.new.bits c.put.new.bits (omega arith) (omega arith)
 
 pub returns-clause-size : goal.returns-clause-size
 returns-clause-size c =
-    length_same c.args.self.now.used.now c.args.self.now.firsts.now c.fill.new.bits c.begin_run.new.firsts (omega arith) (omega arith)
+    length_same c.args.self.now.used.now c.args.self.now.firsts.now c.fill.new.bits c.put.new.bits (omega arith) (omega arith)
