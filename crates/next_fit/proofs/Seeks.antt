@@ -4,7 +4,7 @@ use Rattle.std.proofs.lemmas.Bool.{cases_eq, cases_lt, and_left, and_right, and_
 use Rattle.next_fit.specs.Placement.{all_free, base_and_mark, lowest_fit, place_of}
 
 -- a taken granule among the n from b on
-pub taken_among : (us : List Bool) (b n i : ℕ) → i < n → get_or us (b + i) true ≡ true → all_free us b n ≡ false
+taken_among : (us : List Bool) (b n i : ℕ) → i < n → get_or us (b + i) true ≡ true → all_free us b n ≡ false
 taken_among us b zero i h e = absurd (omega arith)
 taken_among us b (suc n) i h e =
     ⊎_elim
@@ -12,12 +12,7 @@ taken_among us b (suc n) i h e =
     (λ (q : i ≡ n → ⊥). and_right (not (get_or us (b + n) true)) (all_free us b n) (taken_among us b n i (omega arith) e))
     (cases_eq i n)
 
--- one free granule more
-pub free_more : (us : List Bool) (b i : ℕ) → get_or us (b + i) true ≡ false → all_free us b i ≡ true → all_free us b (i + 1) ≡ true
-free_more us b i e h =
-    rw add-one (and_from (not (get_or us (b + i) true)) (all_free us b i) (not_from_false (get_or us (b + i) true) e) h)
-
-pub lowest_none : (us : List Bool) (n b k : ℕ) → k ≡ 0 → lowest_fit us n b k ≡ None
+lowest_none : (us : List Bool) (n b k : ℕ) → k ≡ 0 → lowest_fit us n b k ≡ None
 lowest_none us n b k e = rw e
 
 -- a candidate that does not fit, or that lies past the last
@@ -41,10 +36,8 @@ lowest_pass us n b i all (suc j) h e l =
     ∙ ap (λ c. lowest_fit us n c (all - c)) more)
 
 -- so the search goes on just behind it
-pub lowest_behind : (us : List Bool) (n b i all : ℕ) → i < n → get_or us (b + i) true ≡ true → lowest_fit us n b (all - b) ≡ lowest_fit us n (b + i + 1) (all - (b + i + 1))
-lowest_behind us n b i all h e =
-    let more : b + (i + 1) ≡ b + i + 1 = omega arith in
-    lowest_pass us n b i all (i + 1) h e (omega arith) ∙ ap (λ c. lowest_fit us n c (all - c)) more
+pub lowest_behind : (us : List Bool) (n b i all : ℕ) → i < n → get_or us (b + i) true ≡ true → lowest_fit us n b (all - b) ≡ lowest_fit us n (b + (i + 1)) (all - (b + (i + 1)))
+lowest_behind us n b i all h e = lowest_pass us n b i all (i + 1) h e (omega arith)
 
 pub lowest_hit : (us : List Bool) (n b all : ℕ) → b < all → all_free us b n ≡ true → lowest_fit us n b (all - b) ≡ Some b
 lowest_hit us n b all h e =

@@ -94,6 +94,7 @@ impl<'a> Allocator for NextFit<'a> {
         self.run_at(b)
     }
 
+    #[tactic(auto, using(crate::proofs::Counts::length_same))]
     fn allocate(&mut self, n: usize) -> Result<usize, AllocatorFault> {
         self.admit(n)?;
         let Some((b, mark)) = self.find(n) else {
@@ -107,6 +108,7 @@ impl<'a> Allocator for NextFit<'a> {
         Ok(b)
     }
 
+    #[tactic(auto, using(crate::proofs::Counts::length_same))]
     fn release(&mut self, b: usize) -> Result<usize, AllocatorFault> {
         let n = self.run_at(b);
         if n == 0 {

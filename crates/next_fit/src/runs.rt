@@ -37,7 +37,7 @@ impl<'a> NextFit<'a> {
 
     // The length of the run that begins at granule b, or 0.
     pub(crate) fn run_at(&self, b: usize) -> usize
-        ensures within { 0 < result → b + result ≤ length (map_of self.now.used.now self.now.firsts.now) }
+        ensures within { 0 < result → b + result ≤ self.now.granules }
         ensures value { result ≡ run_length (map_of self.now.used.now self.now.firsts.now) b }
     {
         if self.cell(b) != Cell::First {

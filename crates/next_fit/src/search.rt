@@ -26,7 +26,7 @@ impl<'a> NextFit<'a> {
         'candidates: while b < self.granules {
             for i in 0..n {
                 if self.is_taken(b + i) {
-                    b = b + i + 1;
+                    b += i + 1;
                     continue 'candidates;
                 }
             }

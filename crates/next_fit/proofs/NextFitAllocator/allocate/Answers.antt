@@ -28,11 +28,3 @@ returns-clause-cells c =
     let t = allocating_placed next_fit cs s.mark (length cs) n (b, c.in-Some.mark) some a.room c.in-Some.ensures.value in
     map_allocated us fs c.fill.new.bits c.put.new.bits b n o.fits (omega arith) (omega arith) some (omega arith) (omega arith) c.fill.ensures (c.put.ensures ∙ ap (λ xs. slice_set xs b true) c.fill-2.ensures)
     ∙ sym (ap (λ o. o.cells) t)
-
-pub returns-clause-most : goal.returns-clause-most
-returns-clause-most c =
-    length_same c.args.self.now.used.now c.args.self.now.firsts.now c.fill.new.bits c.put.new.bits (omega arith) (omega arith)
-
-pub returns-clause-size : goal.returns-clause-size
-returns-clause-size c =
-    length_same c.args.self.now.used.now c.args.self.now.firsts.now c.fill.new.bits c.put.new.bits (omega arith) (omega arith)

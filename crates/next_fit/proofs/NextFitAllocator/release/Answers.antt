@@ -3,11 +3,6 @@ use Rattle.next_fit.specs.Bitmaps.{map_of}
 use Rattle.next_fit.proofs.Counts.{counted, length_same, map_released, opened, releasing_whole, small}
 use Rattle.next_fit.proofs.NextFitAllocator.release.Goals as goal
 
-pub overflow_add-b : goal.overflow_add-b
-overflow_add-b c =
-    let s = c.args.self.now in
-    omega (arith, c.run_at-n.ensures.within (omega arith), counted s.used.now s.firsts.now s.granules s.sized, small s.used.now s.firsts.now s.granules s.sized)
-
 pub returns-clause-cells : goal.returns-clause-cells
 returns-clause-cells c =
     let s = c.args.self.now in
@@ -16,17 +11,8 @@ returns-clause-cells c =
     let cs = map_of us fs in
     let b = c.args.b in
     let n = c.run_at-n.result in
-    let all = counted us fs s.granules s.sized in
-    let w : b + n ≤ length cs = c.run_at-n.ensures.within (omega arith) in
+    let w = c.run_at-n.ensures.within (omega arith) in
     let o = opened us fs s.granules s.sized (omega arith) in
     let hu = o.used in
     let t = releasing_whole cs s.mark b n (omega arith) c.run_at-n.ensures.value in
     map_released us fs c.fill.new.bits b n o.fits (omega arith) (omega arith) c.fill.ensures ∙ sym (ap (λ o. o.cells) t)
-
-pub returns-clause-most : goal.returns-clause-most
-returns-clause-most c =
-    let s = c.args.self.now in length_same s.used.now s.firsts.now c.fill.new.bits s.firsts.now (omega arith) (omega arith)
-
-pub returns-clause-size : goal.returns-clause-size
-returns-clause-size c =
-    let s = c.args.self.now in length_same s.used.now s.firsts.now c.fill.new.bits s.firsts.now (omega arith) (omega arith)
