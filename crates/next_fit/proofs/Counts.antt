@@ -99,8 +99,8 @@ pub admitted : (cs : List Cell) (most n : ℕ) (u : Unit {0}) → Ok u ≡ admit
 admitted cs most n u e = go (n == 0) (nat_lt most (taken_in cs + n)) refl refl e
   where
     go : (x y : Bool) → x ≡ (n == 0) → y ≡ nat_lt most (taken_in cs + n) → Ok u ≡ cond x (Err BadNum) (cond y (Err Allowance) (Ok u)) → Admitted cs most n
-    go true y p q r = absurd (let z : ◌≡◌ {A = ℕ} 0 1 = cc in let f : ⊥ = omega arith in f)
-    go false true p q r = absurd (let z : ◌≡◌ {A = ℕ} 0 1 = cc in let f : ⊥ = omega arith in f)
+    go true y p q r = absurd cc
+    go false true p q r = absurd cc
     go false false p q r = record { some = omega (arith, eqb-false n 0 (sym p)); room = ltb-false most (taken_in cs + n) (sym q) }
 
 -- an allocation that is accepted

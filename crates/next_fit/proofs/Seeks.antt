@@ -1,6 +1,6 @@
 -- The steps of a search for free granules.
-use Rattle.std.proofs.Common.{Option, length, refl, ◌≡◌, ℕ, zero, suc, ◌+◌, ◌-◌, ◌<◌, ◌≤◌, Bool, true, false, not, List, get_or, Some, None, sym, ap, ◌∙◌, ⊎_elim, add-one, arith}
-use Rattle.std.proofs.lemmas.Bool.{cases_eq, cases_lt, and_left, and_right, and_from, cond-true, cond-false, not_from_true, not_from_false}
+use Rattle.std.proofs.Common.{Option, length, refl, ◌≡◌, ℕ, zero, suc, ◌+◌, ◌-◌, ◌<◌, ◌≤◌, Bool, true, false, not, List, get_or, Some, None, sym, ap, ◌∙◌, ⊎_elim, arith}
+use Rattle.std.proofs.lemmas.Bool.{cases_eq, cases_lt, and_left, and_right, cond-true, cond-false, not_from_true}
 use Rattle.next_fit.specs.Placement.{all_free, base_and_mark, lowest_fit, place_of}
 
 -- a taken granule among the n from b on

@@ -78,10 +78,12 @@ impl<'a> Allocator for NextFit<'a> {
 
     ghost lawful = { next_fit_lawful };
 
+    #[tactic(auto, using(crate::proofs::Counts::counted))]
     fn granules(&self) -> usize {
         self.granules
     }
 
+    #[tactic(auto, using(crate::proofs::Counts::taken_counted))]
     fn taken(&self) -> usize {
         count_taken(&*self.used, self.granules)
     }

@@ -1,9 +1,9 @@
 // Runs of granules.
-ghost use Rattle.std.specs.Prelude.{◌≡◌, ◌+◌, ◌-◌, ◌≤◌, ◌<◌, count_by, true, false, length, slice_index_or, slice_set};
+ghost use Rattle.std.specs.Prelude.{◌≡◌, ◌+◌, ◌-◌, ◌<◌, ◌≤◌, false, count_by, slice_index_or};
 ghost use Rattle.allocator.specs.declared.cell.Cell.TheVariants.{Free};
 ghost use Rattle.std.specs.List.{prefix_len, range_with_len};
 ghost use Rattle.allocator.specs.Maps.{is_rest, run_length};
-ghost use Rattle.bits.specs.Bits.{bits_of, filled};
+ghost use Rattle.bits.specs.Bits.{bits_of};
 ghost use Rattle.next_fit.specs.Bitmaps.{map_of};
 
 use crate::NextFit;
@@ -31,7 +31,7 @@ impl<'a> NextFit<'a> {
         ensures { result ≡ prefix_len (λ g. is_rest (slice_index_or (map_of self.now.used.now self.now.firsts.now) g Free)) (range_with_len from (self.now.granules - from)) }
     {
         (from..self.granules)
-            .take_while(|g| self.cell(*g) == Cell::Rest)
+            .take_while(|&g| self.cell(g) == Cell::Rest)
             .count()
     }
 
@@ -51,5 +51,5 @@ impl<'a> NextFit<'a> {
 pub(crate) fn count_taken(used: &[u8], n: usize) -> usize
     ensures { result ≡ count_by (λ g. slice_index_or (bits_of used.now) g false) (range_with_len 0 n) }
 {
-    (0..n).filter(|g| get(used, *g)).count()
+    (0..n).filter(|&g| get(used, g)).count()
 }

@@ -1,7 +1,7 @@
 use Rattle.std.proofs.Common.{true, slice_set, ◌+◌, ◌≤◌, length, sym, ap, ◌∙◌, arith}
 use Rattle.next_fit.specs.Bitmaps.{map_of}
 use Rattle.next_fit.specs.Placement.{next_fit}
-use Rattle.next_fit.proofs.Counts.{admitted, allocating_placed, counted, length_same, map_allocated, opened}
+use Rattle.next_fit.proofs.Counts.{admitted, allocating_placed, counted, map_allocated, opened}
 use Rattle.next_fit.proofs.NextFitAllocator.allocate.Goals as goal
 
 pub find-requires-clause-within : goal.find-requires-clause-within

@@ -1,6 +1,6 @@
-use Rattle.std.proofs.Common.{◌+◌, ◌≤◌, length, sym, ap, ◌∙◌, arith}
+use Rattle.std.proofs.Common.{sym, ap, ◌∙◌, arith}
 use Rattle.next_fit.specs.Bitmaps.{map_of}
-use Rattle.next_fit.proofs.Counts.{counted, length_same, map_released, opened, releasing_whole, small}
+use Rattle.next_fit.proofs.Counts.{map_released, opened, releasing_whole}
 use Rattle.next_fit.proofs.NextFitAllocator.release.Goals as goal
 
 pub returns-clause-cells : goal.returns-clause-cells
