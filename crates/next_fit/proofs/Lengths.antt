@@ -1,7 +1,7 @@
--- The length of a run, and how a loop counts it.
-use Rattle.std.proofs.Common.{inl, inr, ⊎_elim, not, refl, Bool, zero, arith, ◌≡◌, ℕ, suc, ◌+◌, ◌<◌, ◌≤◌, true, false, List, length, get_or, drop, sym, ap, ◌∙◌}
+-- The length of a run, and how its granules are counted.
+use Rattle.std.proofs.Common.{refl, zero, arith, ◌≡◌, ℕ, suc, ◌+◌, ◌<◌, ◌≤◌, true, false, List, length, get_or, drop, sym, ◌∙◌}
 use Rattle.std.proofs.lemmas.List.{at_drop_more, at_drop_all, get_or_past}
-use Rattle.std.proofs.lemmas.Bool.{cases_Bool, cases_lt, both_ways, not-true, cond-true, cond-false}
+use Rattle.std.proofs.lemmas.Bool.{cond-true, cond-false}
 use Rattle.std.proofs.lemmas.List.FromFn.{length-range_with_len}
 use Rattle.std.proofs.lemmas.List.Sums.{prefix_len-le-length}
 use Rattle.std.specs.List.{prefix_len, range_with_len}
@@ -31,9 +31,6 @@ pub run_none : (cs : List Cell) (b : ℕ) → false ≡ is_first (get_or cs b Fr
 unfolding run_length
 run_none cs b e = sym (cond-false _ _ _ (sym e))
 
-pub run_past : (cs : List Cell) (b : ℕ) → length cs ≤ b → 0 ≡ run_length cs b
-run_past cs b h = run_none cs b (ap is_first (sym (get_or_past cs b Free h)))
-
 -- what the code's `==` says of a granule
 pub first_same : (x : Cell) → sameb the_type x First ≡ is_first x
 first_same Free = refl
@@ -45,35 +42,14 @@ rest_same Free = refl
 rest_same First = refl
 rest_same Rest = refl
 
-pub not_first : (x : Cell) → true ≡ not (sameb the_type x First) → false ≡ is_first x
-not_first x e = sym (not-true (is_first x) (sym (e ∙ ap not (first_same x))))
-
-pub yes_first : (x : Cell) → false ≡ not (sameb the_type x First) → true ≡ is_first x
-yes_first x e = sym (not_false (is_first x) (sym (e ∙ ap not (first_same x))))
-  where
-    not_false : (b : Bool) → not b ≡ false → b ≡ true
-    not_false true q = refl
-    not_false false q = sym q
-
 -- a granule that is a first lies inside
 pub first_inside : (cs : List Cell) (b : ℕ) → true ≡ is_first (get_or cs b Free) → b < length cs
-first_inside cs b e =
-    ⊎_elim
-    (λ (h : b < length cs). h)
-    (λ (h : length cs ≤ b). absurd (both_ways true (e ∙ ap is_first (get_or_past cs b Free h)) refl))
-    (cases_lt b (length cs))
+first_inside cs b e = grind (arith, get_or_past)
 
 -- the rests in front, as the granules of a range that are rests
 pub rests_range : (cs : List Cell) (i k : ℕ) → i + k ≡ length cs → prefix_len (λ g. is_rest (get_or cs g Free)) (range_with_len i k) ≡ rests_in_front (drop i cs)
-rests_range cs i zero e = sym (rests_all cs i (omega arith))
-rests_range cs i (suc k) e =
-    elim (cases_Bool (is_rest (get_or cs i Free))) [
-      | inl y ↦ (cond-true (is_rest (get_or cs i Free)) (1 + prefix_len (λ g. is_rest (get_or cs g Free)) (range_with_len (i + 1) k)) 0 y ∙ (one_more _ _ (rests_range cs (i + 1) k (omega arith)) ∙ sym (rests_more cs i (omega arith) y)))
-      | inr n ↦ (cond-false _ _ _ n ∙ sym (rests_stop cs i (omega arith) n))
-    ]
-  where
-    one_more : (m n : ℕ) → m ≡ n → 1 + m ≡ suc n
-    one_more m n q = omega arith
+rests_range cs i zero e = grind (arith, rests_all)
+rests_range cs i (suc k) e = let h = rests_range cs (i + 1) k (omega arith) in grind (arith, rests_more, rests_stop)
 
 pub rests_within : (cs : List Cell) (i k : ℕ) → prefix_len (λ g. is_rest (get_or cs g Free)) (range_with_len i k) ≤ k
-rests_within cs i k = omega (arith, prefix_len-le-length (λ g. is_rest (get_or cs g Free)) (range_with_len i k), length-range_with_len i k)
+rests_within cs i k = grind (arith, prefix_len-le-length, length-range_with_len)

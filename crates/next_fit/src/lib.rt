@@ -6,10 +6,10 @@ ghost use Rattle.next_fit.specs.Bitmaps.{fresh_map, granules_of, map_of, sizes_a
 ghost use Rattle.next_fit.specs.Laws.{next_fit_lawful};
 ghost use Rattle.next_fit.specs.Placement.{next_fit};
 
-use crate::runs::count_taken;
+use crate::runs::{begin_run, count_taken};
 use allocator::allocator::Allocator;
 use allocator::fault::AllocatorFault;
-use bits::{fill, put};
+use bits::fill;
 
 mod runs;
 mod search;
@@ -42,6 +42,7 @@ impl<'a> NextFit<'a> {
     }
 
     // All granules free and the mark at 0; where the sizes do not fit, no granules, and the buffers as they were.
+    #[tactic(auto, using(crate::proofs::Counts::fresh_steps))]
     pub fn new(used: &'a mut [u8], firsts: &'a mut [u8]) -> NextFit<'a>
         ensures used { result.used.now ≡ zeroed_if (sizes_fit (length used.old) (length firsts.old)) used.old }
         ensures firsts { result.firsts.now ≡ zeroed_if (sizes_fit (length used.old) (length firsts.old)) firsts.old }
@@ -104,13 +105,12 @@ impl<'a> Allocator for NextFit<'a> {
         };
         let end = b + n;
         fill(&mut *self.used, b, end, true);
-        fill(&mut *self.firsts, b, end, false);
-        put(&mut *self.firsts, b, true);
+        begin_run(&mut *self.firsts, b, end);
         self.mark = mark;
         Ok(b)
     }
 
-    #[tactic(auto, using(crate::proofs::Counts::length_same))]
+    #[tactic(auto, using(crate::proofs::Counts::length_same, crate::proofs::Counts::released_steps))]
     fn release(&mut self, b: usize) -> Result<usize, AllocatorFault> {
         let n = self.run_at(b);
         if n == 0 {

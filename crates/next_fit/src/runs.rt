@@ -1,17 +1,18 @@
 // Runs of granules.
-ghost use Rattle.std.specs.Prelude.{◌≡◌, ◌+◌, ◌-◌, ◌<◌, ◌≤◌, false, count_by, slice_index_or};
+ghost use Rattle.std.specs.Prelude.{◌≡◌, ◌+◌, ◌-◌, ◌<◌, ◌≤◌, true, false, count_by, slice_index_or, slice_set};
 ghost use Rattle.allocator.specs.declared.cell.Cell.TheVariants.{Free};
 ghost use Rattle.std.specs.List.{prefix_len, range_with_len};
 ghost use Rattle.allocator.specs.Maps.{is_rest, run_length};
-ghost use Rattle.bits.specs.Bits.{bits_of};
+ghost use Rattle.bits.specs.Bits.{bits_of, filled};
 ghost use Rattle.next_fit.specs.Bitmaps.{map_of};
 
 use crate::NextFit;
 use allocator::cell::Cell;
-use bits::get;
+use bits::{fill, get, put};
 
 impl<'a> NextFit<'a> {
     // What granule g is; past the last it counts as free.
+    #[tactic(auto, using(crate::proofs::Counts::cell_past, crate::proofs::Counts::cell_there, crate::proofs::Cells::cell_free))]
     fn cell(&self, g: usize) -> Cell
         ensures { result ≡ slice_index_or (map_of self.now.used.now self.now.firsts.now) g Free }
     {
@@ -36,6 +37,7 @@ impl<'a> NextFit<'a> {
     }
 
     // The length of the run that begins at granule b, or 0.
+    #[tactic(auto, using(crate::proofs::Counts::counted, crate::proofs::Lengths::first_inside, crate::proofs::Lengths::first_same, crate::proofs::Lengths::run_none))]
     pub(crate) fn run_at(&self, b: usize) -> usize
         ensures within { 0 < result → b + result ≤ self.now.granules }
         ensures value { result ≡ run_length (map_of self.now.used.now self.now.firsts.now) b }
@@ -52,4 +54,12 @@ pub(crate) fn count_taken(used: &[u8], n: usize) -> usize
     ensures { result ≡ count_by (λ g. slice_index_or (bits_of used.now) g false) (range_with_len 0 n) }
 {
     (0..n).filter(|&g| get(used, g)).count()
+}
+
+// Among the granules from b up to `end` only b is a first.
+pub(crate) fn begin_run(firsts: &mut [u8], b: usize, end: usize)
+    ensures { bits_of firsts.new ≡ slice_set (filled (bits_of firsts.old) b end false) b true }
+{
+    fill(firsts, b, end, false);
+    put(firsts, b, true);
 }

@@ -8,6 +8,7 @@ use bits::get;
 
 impl<'a> NextFit<'a> {
     // Whether granule g is taken; past the last counts as taken.
+    #[tactic(auto, using(crate::proofs::Counts::taken_past, crate::proofs::Counts::taken_there))]
     fn is_taken(&self, g: usize) -> bool
         ensures { result ≡ slice_index_or (map is_used (map_of self.now.used.now self.now.firsts.now)) g true }
     {
@@ -16,9 +17,9 @@ impl<'a> NextFit<'a> {
 
     // The lowest granule from `from` on with n free granules in a row.
     // A candidate that meets a taken granule goes on just behind it, so that each granule is tested once.
+    #[tactic(auto, using(crate::proofs::Seeks::behind, crate::proofs::Seeks::free_inside, crate::proofs::Seeks::lowest_hit, crate::proofs::Counts::length_used))]
     fn seek(&self, n: usize, from: usize) -> Option<usize>
-        requires { n ≤ self.now.granules }
-        ensures within { IfSome result (λ b. b < self.now.granules) }
+        ensures within { IfSome result (λ b. b + n ≤ self.now.granules) }
         ensures value { result ≡ lowest_fit (map is_used (map_of self.now.used.now self.now.firsts.now)) n from (self.now.granules - from) }
     {
         let mut b = from;
@@ -37,9 +38,8 @@ impl<'a> NextFit<'a> {
 
     // What next fit answers, as (base, mark): the lowest place from the mark on, else the lowest from 0 on.
     // Kept as it is: that a placement is a tuple is a rule of the project.
+    #[tactic(auto, using(crate::proofs::Counts::counted, crate::proofs::Counts::length_used))]
     pub(crate) fn find(&self, n: usize) -> Option<(usize, usize)>
-        requires some { 0 < n }
-        requires within { n ≤ self.now.granules }
         ensures within { IfSome result (λ x. x.0 + n ≤ length (map_of self.now.used.now self.now.firsts.now)) }
         ensures value { result ≡ next_fit (map_of self.now.used.now self.now.firsts.now) self.now.mark n }
     {
