@@ -1,4 +1,4 @@
--- The map of two buffers whose sizes fit: its length, its taken granules, and its changes.
+-- The map of two buffers: its length, its granules, those that are taken, and its changes.
 use Rattle.std.proofs.Common.{zero, count_by, ◌≡◌, ℕ, suc, ◌+◌, ◌*◌, ◌<◌, ◌≤◌, Bool, true, false, cond, List, map, length, get_or, drop, set, replicate, Some, Ok, sym, ◌∙◌, arith}
 use lib.Seq.{paste}
 use native.Mathlib.Nat.{zero-div}
@@ -9,27 +9,13 @@ use Rattle.std.specs.List.{range_with_len}
 use Rattle.allocator.specs.Allocators.{admitting, allocating, releasing}
 use Rattle.allocator.specs.declared.cell.Cell.{Cell}
 use Rattle.allocator.specs.declared.cell.Cell.TheVariants.{Free, First, Rest}
-use Rattle.allocator.specs.Maps.{is_free, taken_in, run_length, run_of, Rule}
+use Rattle.allocator.specs.Maps.{is_free, taken_in, run_length, run_of}
 use Rattle.bits.specs.Bits.{bits_of, filled, length_bits}
-use Rattle.next_fit.specs.Bitmaps.{cell_of, cells_of, fresh_map, granules_of, map_of, sizes_fit, zeroed_if}
-use Rattle.next_fit.specs.Placement.{is_used}
+use Rattle.next_fit.specs.Bitmaps.{cell_of, cells_of, granules_of, map_of}
+use Rattle.next_fit.specs.Placement.{is_used, next_fit}
 use Rattle.next_fit.proofs.Cells.{cell_at, cell_free, cells_freed, cells_run, filled_run, length_cells, used_cells}
 
-pub map_open : (us fs : List ℕ) → sizes_fit (length us) (length fs) ≡ true → map_of us fs ≡ cells_of (bits_of us) (bits_of fs)
-map_open us fs e = grind arith
-
--- the granules of two buffers, where there are some
-pub record Opened (us fs : List ℕ) (r : ℕ) : Type 0 where
-  pub fits : sizes_fit (length us) (length fs) ≡ true
-  pub used : 8 * length us ≡ r
-  pub firsts : 8 * length fs ≡ r
-
-pub opened : (us fs : List ℕ) (r : ℕ) → r ≡ granules_of (length us) (length fs) → 0 < r → Opened us fs r
-opened us fs r e h = record { fits = grind arith; used = grind arith; firsts = grind arith }
-
-pub small : (us fs : List ℕ) (r : ℕ) → r ≡ granules_of (length us) (length fs) → r ≤ 1024
-small us fs r e = grind arith
-
+-- the number of granules is the length of the map
 pub counted : (us fs : List ℕ) (r : ℕ) → r ≡ granules_of (length us) (length fs) → r ≡ length (map_of us fs)
 counted us fs r e = grind (arith, length_cells, length_bits)
 
@@ -47,6 +33,7 @@ taken_past us fs r g e h = grind (arith, counted, length-map, get_or_past)
 pub taken_there : (us fs : List ℕ) (r g : ℕ) → r ≡ granules_of (length us) (length fs) → g < r → get_or (map is_used (map_of us fs)) g true ≡ get_or (bits_of us) g false
 taken_there us fs r g e h = grind (arith, used_cells, get_or_default, length_bits)
 
+-- and of the list that says which are taken
 pub length_used : (us fs : List ℕ) (r : ℕ) → r ≡ granules_of (length us) (length fs) → length (map is_used (map_of us fs)) ≡ r
 length_used us fs r e = grind (arith, counted, length-map)
 
@@ -54,40 +41,32 @@ length_used us fs r e = grind (arith, counted, length-map)
 pub length_same : (us fs vs gs : List ℕ) → length vs ≡ length us → length gs ≡ length fs → length (map_of vs gs) ≡ length (map_of us fs)
 length_same us fs vs gs p q = grind (arith, length_cells, length_bits)
 
--- what is known where n granules were admitted
-pub record Admitted (cs : List Cell) (most n : ℕ) : Type 0 where
-  pub some : 0 < n
-  pub room : taken_in cs + n ≤ most
-
-pub admitted : (cs : List Cell) (most n : ℕ) (u : Unit {0}) → Ok u ≡ admitting cs most n → Admitted cs most n
-admitted cs most n u e = record { some = grind arith; room = grind arith }
-
-pub admitted_some : (cs : List Cell) (most n : ℕ) (u : Unit {0}) → Ok u ≡ admitting cs most n → 0 < n
-admitted_some cs most n u e = grind arith
-
-pub admitted_room : (cs : List Cell) (most n : ℕ) (u : Unit {0}) → Ok u ≡ admitting cs most n → taken_in cs + n ≤ most
-admitted_room cs most n u e = grind arith
-
--- an allocation that is accepted
-pub allocating_placed :
-    (place : Rule) (cs : List Cell) (m most n : ℕ) (x : ℕ × ℕ) → 0 < n → taken_in cs + n ≤ most → Some x ≡ place cs m n →
-    allocating place cs m most n ≡ record { answer = Ok x.0; cells = paste cs x.0 (run_of n) n; mark = x.1 }
-allocating_placed place cs m most n x z l e = grind arith
-
 -- the map after the writes of an allocation
-pub map_allocated :
-    (us fs us' fs' : List ℕ) (b n : ℕ) → sizes_fit (length us) (length fs) ≡ true → length us' ≡ length us → length fs' ≡ length fs →
-    0 < n → b + n ≤ 8 * length us → b + n ≤ 8 * length fs →
+map_allocated :
+    (us fs us' fs' : List ℕ) (b n : ℕ) → 0 < n → b + n ≤ length (map_of us fs) → length us' ≡ length us → length fs' ≡ length fs →
     bits_of us' ≡ filled (bits_of us) b (b + n) true → bits_of fs' ≡ set (filled (bits_of fs) b (b + n) false) b true →
     map_of us' fs' ≡ paste (map_of us fs) b (run_of n) n
-map_allocated us fs us' fs' b n e lu lf z hu hf pu pf = grind (arith, length_bits, filled_run, cells_run)
+map_allocated us fs us' fs' b n z w lu lf pu pf = grind (arith, length_bits, length_cells, filled_run, cells_run)
+
+-- an allocation that was admitted, with the place that the rule answered
+pub allocated :
+    (us fs us' fs' : List ℕ) (m n b next : ℕ) (u : Unit {0}) → Ok u ≡ admitting (map_of us fs) (length (map_of us fs)) n →
+    Some (b, next) ≡ next_fit (map_of us fs) m n → b + n ≤ length (map_of us fs) → length us' ≡ length us → length fs' ≡ length fs →
+    bits_of us' ≡ filled (bits_of us) b (b + n) true → bits_of fs' ≡ set (filled (bits_of fs) b (b + n) false) b true →
+    map_of us' fs' ≡ (allocating next_fit (map_of us fs) m (length (map_of us fs)) n).cells
+allocated us fs us' fs' m n b next u e f w lu lf pu pf =
+    let z : 0 < n = grind arith in
+    let r : taken_in (map_of us fs) + n ≤ length (map_of us fs) = grind arith in
+    let k = map_allocated us fs us' fs' b n z w lu lf pu pf in
+    grind arith
 
 -- the map after the write of a release
 pub map_released :
-    (us fs us' : List ℕ) (b n : ℕ) → sizes_fit (length us) (length fs) ≡ true → length us' ≡ length us → b + n ≤ 8 * length us →
+    (us fs us' : List ℕ) (b n : ℕ) → 0 < n → b + n ≤ length (map_of us fs) → length us' ≡ length us →
     bits_of us' ≡ filled (bits_of us) b (b + n) false → map_of us' fs ≡ paste (map_of us fs) b (replicate n Free) n
-map_released us fs us' b n e lu h p = grind (arith, length_bits, filled_run, cells_freed)
+map_released us fs us' b n z w lu p = grind (arith, length_bits, length_cells, filled_run, cells_freed)
 
+-- a release of a run
 pub releasing_whole :
     (cs : List Cell) (m b n : ℕ) → 0 < n → n ≡ run_length cs b →
     releasing cs m b ≡ record { answer = Ok n; cells = paste cs b (replicate n Free) n; mark = m }
@@ -104,12 +83,6 @@ cells_fresh n m =
     ext_get_or Free (cells_of (bits_of (replicate n 0)) (bits_of (replicate m 0))) (replicate (8 * n) Free)
     (grind (arith, length_cells, length_bits, length-replicate))
     (λ i h. grind (arith, length_cells, length_bits, length-replicate, cell_at, zero_bits, cell_free, get_or-replicate))
-
--- the map of two buffers that were zeroed if their sizes fit
-pub map_fresh :
-    (us fs vs gs : List ℕ) (fit : Bool) → fit ≡ sizes_fit (length us) (length fs) → vs ≡ zeroed_if fit us →
-    gs ≡ zeroed_if fit fs → map_of vs gs ≡ fresh_map (length us) (length fs)
-map_fresh us fs vs gs fit e p q = grind (arith, cells_fresh, length-replicate)
 
 -- the taken granules, as the places of a range at which a test says so
 taken_range :
@@ -128,6 +101,7 @@ taken_range cs p i (suc k) e f =
     one_more t First m n q h = grind arith
     one_more t Rest m n q h = grind arith
 
+-- and so of the places whose used bit is set
 pub taken_counted :
     (us fs : List ℕ) (r : ℕ) → r ≡ granules_of (length us) (length fs) →
     count_by (λ g. get_or (bits_of us) g false) (range_with_len 0 r) ≡ taken_in (map_of us fs)
@@ -135,6 +109,11 @@ taken_counted us fs r e =
     taken_range (map_of us fs) (λ g. get_or (bits_of us) g false) 0 r (grind (arith, counted))
     (λ g h. sym (taken_there us fs r g e (grind (arith, counted))) ∙ get_or-map is_used (map_of us fs) g Free true h)
 
+-- what the functions' goals cite
 pub ruleset fresh_steps = (cells_fresh, length-replicate)
 
 pub ruleset released_steps = (counted, map_released, releasing_whole)
+
+pub ruleset cell_steps = (cell_past, cell_there, cell_free)
+
+pub ruleset taken_steps = (taken_past, taken_there)

@@ -51,5 +51,9 @@ pub rests_range : (cs : List Cell) (i k : ℕ) → i + k ≡ length cs → prefi
 rests_range cs i zero e = grind (arith, rests_all)
 rests_range cs i (suc k) e = let h = rests_range cs (i + 1) k (omega arith) in grind (arith, rests_more, rests_stop)
 
+-- there are no more than the range has
 pub rests_within : (cs : List Cell) (i k : ℕ) → prefix_len (λ g. is_rest (get_or cs g Free)) (range_with_len i k) ≤ k
 rests_within cs i k = grind (arith, prefix_len-le-length, length-range_with_len)
+
+-- what the goals of a run's length cite
+pub ruleset run_steps = (first_inside, first_same, run_none)

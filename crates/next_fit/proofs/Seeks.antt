@@ -28,6 +28,7 @@ lowest_pass us n b i all (suc j) h e l =
     ∙ (lowest_skip us n (b + j) all (taken_among us (b + j) n (i - j) (omega arith) (rw at e))
     ∙ ap (λ c. lowest_fit us n c (all - c)) more)
 
+-- a candidate that fits is the answer
 pub lowest_hit : (us : List Bool) (n b all : ℕ) → b < all → all_free us b n ≡ true → lowest_fit us n b (all - b) ≡ Some b
 lowest_hit us n b all h e = let k : all - b ≡ suc (all - (b + 1)) = omega arith in rw k (grind arith)
 
@@ -39,3 +40,6 @@ behind us n b i all h e = sym (lowest_pass us n b i all (i + 1) h (sym e) (omega
 pub free_inside : (us : List Bool) (b n : ℕ) → b < length us → all_free us b n ≡ true → b + n ≤ length us
 free_inside us b zero h e = omega arith
 free_inside us b (suc n) h e = let r = free_inside us b n h (grind arith) in grind (arith, get_or_past)
+
+-- what the goals of the search cite
+pub ruleset seek_steps = (behind, free_inside, lowest_hit)

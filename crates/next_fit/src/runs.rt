@@ -12,7 +12,7 @@ use bits::{fill, get, put};
 
 impl<'a> NextFit<'a> {
     // What granule g is; past the last it counts as free.
-    #[tactic(auto, using(crate::proofs::Counts::cell_past, crate::proofs::Counts::cell_there, crate::proofs::Cells::cell_free))]
+    #[tactic(auto, using(crate::proofs::Counts::cell_steps))]
     fn cell(&self, g: usize) -> Cell
         ensures { result ≡ slice_index_or (map_of self.now.used.now self.now.firsts.now) g Free }
     {
@@ -37,7 +37,7 @@ impl<'a> NextFit<'a> {
     }
 
     // The length of the run that begins at granule b, or 0.
-    #[tactic(auto, using(crate::proofs::Counts::counted, crate::proofs::Lengths::first_inside, crate::proofs::Lengths::first_same, crate::proofs::Lengths::run_none))]
+    #[tactic(auto, using(crate::proofs::Counts::counted, crate::proofs::Lengths::run_steps))]
     pub(crate) fn run_at(&self, b: usize) -> usize
         ensures within { 0 < result → b + result ≤ self.now.granules }
         ensures value { result ≡ run_length (map_of self.now.used.now self.now.firsts.now) b }

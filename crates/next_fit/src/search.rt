@@ -8,7 +8,7 @@ use bits::get;
 
 impl<'a> NextFit<'a> {
     // Whether granule g is taken; past the last counts as taken.
-    #[tactic(auto, using(crate::proofs::Counts::taken_past, crate::proofs::Counts::taken_there))]
+    #[tactic(auto, using(crate::proofs::Counts::taken_steps))]
     fn is_taken(&self, g: usize) -> bool
         ensures { result ≡ slice_index_or (map is_used (map_of self.now.used.now self.now.firsts.now)) g true }
     {
@@ -17,7 +17,7 @@ impl<'a> NextFit<'a> {
 
     // The lowest granule from `from` on with n free granules in a row.
     // A candidate that meets a taken granule goes on just behind it, so that each granule is tested once.
-    #[tactic(auto, using(crate::proofs::Seeks::behind, crate::proofs::Seeks::free_inside, crate::proofs::Seeks::lowest_hit, crate::proofs::Counts::length_used))]
+    #[tactic(auto, using(crate::proofs::Counts::length_used, crate::proofs::Seeks::seek_steps))]
     fn seek(&self, n: usize, from: usize) -> Option<usize>
         ensures within { IfSome result (λ b. b + n ≤ self.now.granules) }
         ensures value { result ≡ lowest_fit (map is_used (map_of self.now.used.now self.now.firsts.now)) n from (self.now.granules - from) }
