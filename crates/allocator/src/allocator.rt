@@ -41,9 +41,7 @@ pub trait Allocator {
         if n == 0 {
             return Err(AllocatorFault::BadNum);
         }
-        let taken = self.taken();
-        let most = self.allowance();
-        if taken > most || n > most - taken {
+        if n > self.allowance().saturating_sub(self.taken()) {
             return Err(AllocatorFault::Allowance);
         }
         Ok(())
