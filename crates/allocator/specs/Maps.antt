@@ -1,25 +1,22 @@
 -- The map of an allocator: each granule is free, the first of a run, or one of its rest.
 use Rattle.std.specs.Prelude.{◌≡◌, ℕ, zero, suc, ◌+◌, ◌<◌, ◌≤◌, Bool, true, false, cond, List, [], ◌∷◌, length, drop, replicate, Some, None, Option, slice_index_or}
-
-pub data Cell : Type 0 where
-  free : Cell
-  first : Cell
-  rest : Cell
+use Rattle.allocator.specs.declared.cell.Cell.{Cell}
+use Rattle.allocator.specs.declared.cell.Cell.TheVariants.{Free, First, Rest}
 
 abbrev pub is_free : Cell → Bool
-is_free free = true
-is_free first = false
-is_free rest = false
+is_free Free = true
+is_free First = false
+is_free Rest = false
 
 abbrev pub is_first : Cell → Bool
-is_first free = false
-is_first first = true
-is_first rest = false
+is_first Free = false
+is_first First = true
+is_first Rest = false
 
 abbrev pub is_rest : Cell → Bool
-is_rest free = false
-is_rest first = false
-is_rest rest = true
+is_rest Free = false
+is_rest First = false
+is_rest Rest = true
 
 -- how many granules are not free
 unfoldable pub taken_in : List Cell → ℕ
@@ -33,16 +30,16 @@ rests_in_front (x ∷ xs) = cond (is_rest x) (suc (rests_in_front xs)) 0
 
 -- the length of the run that begins at granule b, or 0
 unfoldable pub run_length : List Cell → ℕ → ℕ
-run_length cs b = cond (is_first (slice_index_or cs b free)) (suc (rests_in_front (drop (b + 1) cs))) 0
+run_length cs b = cond (is_first (slice_index_or cs b Free)) (suc (rests_in_front (drop (b + 1) cs))) 0
 
 -- a run of n granules: a first and the rests that follow it
 abbrev pub run_of : ℕ → List Cell
 run_of zero = []
-run_of (suc n) = first ∷ replicate n rest
+run_of (suc n) = First ∷ replicate n Rest
 
 -- n neighbouring granules from b on lie inside and are free
 abbrev pub FreeAt : List Cell → ℕ → ℕ → Type 0
-FreeAt cs b n = (b + n ≤ length cs) × ((k : ℕ) → k < n → slice_index_or cs (b + k) rest ≡ free)
+FreeAt cs b n = (b + n ≤ length cs) × ((k : ℕ) → k < n → slice_index_or cs (b + k) Rest ≡ Free)
 
 -- a placement rule: from the map, the mark and n, a base granule and the next mark together, or nothing
 abbrev pub Rule : Type 0

@@ -1,6 +1,7 @@
 ghost use Rattle.std.specs.Prelude.{◌≡◌, ℕ, ◌+◌, ◌≤◌, false, List, length, is_ok, IfOk};
-ghost use Rattle.allocator.specs.Allocators.{allocating, releasing};
-ghost use Rattle.allocator.specs.Maps.{Cell, Lawful, Rule, run_length, taken_in};
+ghost use Rattle.allocator.specs.Allocators.{admitting, allocating, releasing};
+ghost use Rattle.allocator.specs.declared.cell.Cell.{Cell};
+ghost use Rattle.allocator.specs.Maps.{Lawful, Rule, run_length, taken_in};
 
 use crate::fault::AllocatorFault;
 
@@ -29,8 +30,22 @@ pub trait Allocator {
         ensures { result ≡ most self.now };
 
     // The length of the run that begins at granule b, or 0.
+    // Kept as it is: that the length is 0 where no run begins is a rule of the project.
     fn length_at(&self, b: usize) -> usize
         ensures { result ≡ run_length (cells self.now) b };
+
+    // Denies where n is 0, and where n more than the taken granules are more than the allowance.
+    fn admit(&self, n: usize) -> Result<(), AllocatorFault>
+        ensures { result ≡ admitting (cells self.now) (most self.now) n }
+    {
+        if n == 0 {
+            return Err(AllocatorFault::BadNum);
+        }
+        if n > self.allowance().saturating_sub(self.taken()) {
+            return Err(AllocatorFault::Allowance);
+        }
+        Ok(())
+    }
 
     // Takes n granules at the place that the rule answers, and answers their base granule.
     fn allocate(&mut self, n: usize) -> Result<usize, AllocatorFault>

@@ -2,6 +2,7 @@
 #![tactic(auto)]
 
 pub mod allocator;
+pub mod cell;
 pub mod fault;
 pub mod numbered;
 pub mod quota;

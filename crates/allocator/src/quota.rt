@@ -47,14 +47,7 @@ impl<B: Allocator> Allocator for Quota<B> {
     }
 
     fn allocate(&mut self, n: usize) -> Result<usize, AllocatorFault> {
-        if n == 0 {
-            return Err(AllocatorFault::BadNum);
-        }
-        let taken = self.below.taken();
-        let limit = self.limit;
-        if taken > limit || n > limit - taken {
-            return Err(AllocatorFault::Allowance);
-        }
+        self.admit(n)?;
         self.below.allocate(n)
     }
 

@@ -2,7 +2,7 @@
 use Rattle.std.proofs.Common.{◌≡◌, ℕ, ◌*◌, ◌/◌, Bool, true, false, cond, ◌&&◌, eqb, ltb, List, [], ◌∷◌, get_or, replicate, sym, refl, ap, ◌∙◌, subst, arith}
 use Rattle.std.proofs.lemmas.Bool.{cond-true, cond-false}
 use Rattle.allocator.specs.Allocators.{allocating}
-use Rattle.allocator.specs.Maps.{free}
+use Rattle.allocator.specs.declared.cell.Cell.TheVariants.{Free}
 use Rattle.machine.specs.Calls.{Call}
 use Rattle.machine.specs.Model.{Fixed, State, Effect, empty_registers, fresh_state, outcome, register_at, state_after}
 use Rattle.machine.specs.Rules.{granted, is_operand, is_register, perform, stepped, unless}
@@ -189,7 +189,7 @@ module _ (K L : Fixed) (al : Alike K L) where
         registers = empty_registers;
         bytes = replicate (16 * p i) 0;
         tags = replicate (p i) false;
-        cells = replicate (q i) free;
+        cells = replicate (q i) Free;
         mark = 0;
         waiting = [];
         painted = [];

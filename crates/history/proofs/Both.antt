@@ -2,7 +2,9 @@
 use Rattle.std.proofs.Common.{◌≡◌, ℕ, suc, ◌+◌, ◌-◌, ◌*◌, ◌/◌, ◌<◌, ◌≤◌, Bool, true, false, cond, ◌&&◌, eqb, ltb, leb, List, [], ◌∷◌, ◌++◌, get_or, Some, Option, sym, refl, ap, ◌∙◌, inl, inr, arith}
 use lib.Seq.{paste}
 use Rattle.std.proofs.lemmas.Bool.{cases_Bool, cond-false, ne_eqb}
-use Rattle.allocator.specs.Maps.{Cell, free, run_of}
+use Rattle.allocator.specs.declared.cell.Cell.{Cell}
+use Rattle.allocator.specs.declared.cell.Cell.TheVariants.{Free}
+use Rattle.allocator.specs.Maps.{run_of}
 use Rattle.authority.specs.Capabilities.{base_of, top_of}
 use Rattle.authority.specs.Images.{image_of, word_at}
 use Rattle.authority.specs.declared.capability.Capability.{Capability}
@@ -180,11 +182,11 @@ module _ (m : Group) (K : Fixed) (s t : State) (b c : Ledger) (v : Inv K s b) (v
     sweep = o.sweep;
     registers = λ j h. reg_put s.registers a r j (Some it) v.shaped ha hr ∙ ap (λ (x : Option Capability). cond (eqb j (slot a r)) (Some it) x) (o.registers j h) ∙ sym (reg_put t.registers a r j (Some it) v'.shaped ha hr);
     bytes = λ j u. elim (cases_Bool (fresh_byte j)) [
-      | inl y ↦ let f = free_at j y in d.free_bytes j f ∙ sym (d'.free_bytes j (ap (λ (l : List Cell). get_or l (j / 16) free) (sym o.cells) ∙ f))
+      | inl y ↦ let f = free_at j y in d.free_bytes j f ∙ sym (d'.free_bytes j (ap (λ (l : List Cell). get_or l (j / 16) Free) (sym o.cells) ∙ f))
       | inr x ↦ o.bytes j (older j x u)
     ];
     tags = λ j u. elim (cases_Bool (fresh_byte j)) [
-      | inl y ↦ let f = free_at j y in d.free_tags (j / 16) f ∙ sym (d'.free_tags (j / 16) (ap (λ (l : List Cell). get_or l (j / 16) free) (sym o.cells) ∙ f))
+      | inl y ↦ let f = free_at j y in d.free_tags (j / 16) f ∙ sym (d'.free_tags (j / 16) (ap (λ (l : List Cell). get_or l (j / 16) Free) (sym o.cells) ∙ f))
       | inr x ↦ o.tags j (older j x u)
     ];
   }
@@ -192,7 +194,7 @@ module _ (m : Group) (K : Fixed) (s t : State) (b c : Ledger) (v : Inv K s b) (v
       fresh_byte : ℕ → Bool
       fresh_byte j = leb (base_of it) j && ltb j (top_of it)
 
-      free_at : (j : ℕ) → fresh_byte j ≡ true → get_or s.cells (j / 16) free ≡ free
+      free_at : (j : ℕ) → fresh_byte j ≡ true → get_or s.cells (j / 16) Free ≡ Free
       free_at j y = let z = span_in (base_of it) (top_of it) at n j from to y in rm.1 (j / 16) z.0 z.1
 
       older : (j : ℕ) → fresh_byte j ≡ false → Outside m (with_grant b a r it) j → Outside m b j

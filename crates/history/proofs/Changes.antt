@@ -3,7 +3,9 @@ use Rattle.std.proofs.Common.{◌≡◌, ℕ, zero, suc, ◌+◌, ◌-◌, ◌*�
 use lib.Seq.{paste}
 use Rattle.std.proofs.lemmas.Bool.Decides.{nat_tests}
 use Rattle.std.proofs.lemmas.Bool.{or_left, cases_Bool, cases_lt, eqb-true, eqb-false, cond-true, cond-false, lt-ltb}
-use Rattle.allocator.specs.Maps.{Cell, FreeAt, free, first, rest, run_length, run_of}
+use Rattle.allocator.specs.declared.cell.Cell.{Cell}
+use Rattle.allocator.specs.declared.cell.Cell.TheVariants.{Free, First, Rest}
+use Rattle.allocator.specs.Maps.{FreeAt, run_length, run_of}
 use Rattle.authority.proofs.Making.{numbers_back}
 use Rattle.authority.specs.Capabilities.{base_of, capability_of, top_of}
 use Rattle.authority.specs.Images.{word_at}
@@ -163,7 +165,7 @@ module _ (K : Fixed) (s : State) (b : Ledger) (v : Inv K s b) where
   pub painted_whole : (r : Run) → Among r s.painted → WholeRun s.cells r
   painted_whole r am = let (k, l) = v.painted r am in record { some = l.some; cells = l.cells; end = v.ends r (among_left s.painted s.waiting r am) }
 
-  pub painted_released : (g : ℕ) → get_or (released_cells s.painted s.cells) g free ≡ cond (in_runs s.painted g) free (get_or s.cells g free)
+  pub painted_released : (g : ℕ) → get_or (released_cells s.painted s.cells) g Free ≡ cond (in_runs s.painted g) Free (get_or s.cells g Free)
   painted_released g = get_released s.painted s.cells g painted_whole (disjoint s.painted v.painted (once_left s.painted s.waiting v.once))
 
   bytes_fit : length s.bytes ≡ 16 * length s.tags
@@ -213,10 +215,10 @@ module _ (K : Fixed) (s : State) (b : Ledger) (v : Inv K s b) where
           let d : i / 16 ≡ g = omega arith in
           painted_wiped_bytes i ∙ cond-false (in_runs s.painted (i / 16)) _ _ (ap (in_runs s.painted) d ∙ out))).0
 
-      was : (g : ℕ) → get_or (released_cells s.painted s.cells) g free ≡ rest → get_or s.cells g free ≡ rest
-      was g e = go (in_runs s.painted g) (get_or s.cells g free) (sym (painted_released g) ∙ e)
+      was : (g : ℕ) → get_or (released_cells s.painted s.cells) g Free ≡ Rest → get_or s.cells g Free ≡ Rest
+      was g e = go (in_runs s.painted g) (get_or s.cells g Free) (sym (painted_released g) ∙ e)
         where
-          go : (t : Bool) (x : Cell) → cond t free x ≡ rest → x ≡ rest
+          go : (t : Bool) (x : Cell) → cond t Free x ≡ Rest → x ≡ Rest
           go true x q = let z : ◌≡◌ {A = ℕ} 0 1 = cc in absurd (let f : ⊥ = omega arith in f)
           go false x q = q
 
@@ -266,7 +268,7 @@ module _ (K : Fixed) (s : State) (b : Ledger) (v : Inv K s b) where
       | inl h ↦ v.ends r (among_left s.painted s.waiting r h)
       | inr h ↦ elim (among_append s.waiting _ r h) [
         | inl k ↦ v.ends r (among_right s.painted s.waiting r k)
-        | inr k ↦ elim k [ inl q ↦ (λ z. run_end s.cells (base_of a / 16) some (ap (λ (y : Run). get_or s.cells (y.start + y.length) free) (sym q) ∙ z)) | inr q ↦ absurd q ]
+        | inr k ↦ elim k [ inl q ↦ (λ z. run_end s.cells (base_of a / 16) some (ap (λ (y : Run). get_or s.cells (y.start + y.length) Free) (sym q) ∙ z)) | inr q ↦ absurd q ]
       ]
     ];
     once = once_more_of s.painted s.waiting (run_under s a) v.once (begins_append s.painted s.waiting (base_of a / 16) (begins_in s.painted (base_of a / 16) (λ r x. (v.painted r x).1.some) (v.regs_new i a e)) new);
@@ -371,7 +373,7 @@ module _ (K : Fixed) (s : State) (b : Ledger) (v : Inv K s b) (c r n at next : �
   new : Sound' w (Some (record { capability = w; provenance = b.next }))
   new = sound_new s.cells b.latest b.grants at n b.next c w made pos room
 
-  free_there : (g : ℕ) → at ≤ g → g < at + n → get_or s.cells g free ≡ free
+  free_there : (g : ℕ) → at ≤ g → g < at + n → get_or s.cells g Free ≡ Free
   free_there g lo hi = room_free s.cells b.latest b.grants at n b.next c w made pos room g lo hi
 
   unpainted : in_runs s.painted (base_of w / 16) ≡ false
@@ -382,10 +384,10 @@ module _ (K : Fixed) (s : State) (b : Ledger) (v : Inv K s b) (c r n at next : �
         | inr q ↦ q
       ])
 
-  still_ends : {k : ℕ} (x : Run) → Live s.cells b.latest b.grants k x → (get_or s.cells (x.start + x.length) free ≡ rest → ⊥) → get_or (paste s.cells at (run_of n) n) (x.start + x.length) free ≡ rest → ⊥
+  still_ends : {k : ℕ} (x : Run) → Live s.cells b.latest b.grants k x → (get_or s.cells (x.start + x.length) Free ≡ Rest → ⊥) → get_or (paste s.cells at (run_of n) n) (x.start + x.length) Free ≡ Rest → ⊥
   still_ends x l old e = go (within at n (x.start + x.length)) (eqb (x.start + x.length) at) refl refl (sym (get_taken s.cells at n (x.start + x.length) pos room.0) ∙ e)
     where
-      go : (t u : Bool) → within at n (x.start + x.length) ≡ t → eqb (x.start + x.length) at ≡ u → cond t (cond u first rest) (get_or s.cells (x.start + x.length) free) ≡ rest → ⊥
+      go : (t u : Bool) → within at n (x.start + x.length) ≡ t → eqb (x.start + x.length) at ≡ u → cond t (cond u First Rest) (get_or s.cells (x.start + x.length) Free) ≡ Rest → ⊥
       go true true p q z = first_rest z
       go true false p q z =
           let h = within_true at n (x.start + x.length) p in

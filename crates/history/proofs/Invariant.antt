@@ -1,6 +1,7 @@
 -- What every history keeps, of the machine and its ledger.
 use Rattle.std.proofs.Common.{◌≡◌, ℕ, ◌+◌, ◌*◌, ◌/◌, ◌<◌, ◌≤◌, true, false, cond, eqb, List, [], ◌∷◌, ◌++◌, length, get_or, Some, Option}
-use Rattle.allocator.specs.Maps.{Cell, free, first, rest}
+use Rattle.allocator.specs.declared.cell.Cell.{Cell}
+use Rattle.allocator.specs.declared.cell.Cell.TheVariants.{Free, First, Rest}
 use Rattle.authority.specs.Capabilities.{base_of, capability_of, top_of}
 use Rattle.authority.specs.Images.{word_at}
 use Rattle.authority.specs.Masks.{all_permissions}
@@ -17,7 +18,7 @@ use Rattle.history.proofs.Laws.{Shaped, capability_at, reg}
 
 -- what the run's granule g is in the map
 abbrev pub part : Run → ℕ → Cell
-part w g = cond (eqb g w.start) first rest
+part w g = cond (eqb g w.start) First Rest
 
 -- a run that grant k took and that is not released: its grant, its granules in the map, and the latest grant of its bytes
 pub record Live (cs : List Cell) (latest : ℕ → Option ℕ) (grants : ℕ → Option Grant) (k : ℕ) (w : Run) : Type 0 where
@@ -26,7 +27,7 @@ pub record Live (cs : List Cell) (latest : ℕ → Option ℕ) (grants : ℕ →
   pub made : capability_of (16 * w.start) (16 * w.start + 16 * w.length) all_permissions ≡ Some whole
   pub granted : grants k ≡ Some (record { to = to; whole = whole })
   pub some : 0 < w.length
-  pub cells : (g : ℕ) → w.start ≤ g → g < w.start + w.length → get_or cs g free ≡ part w g
+  pub cells : (g : ℕ) → w.start ≤ g → g < w.start + w.length → get_or cs g Free ≡ part w g
   pub mine : (i : ℕ) → 16 * w.start ≤ i → i < 16 * w.start + 16 * w.length → latest i ≡ Some k
 
 -- a capability that the ledger has where it stands, within the grant of its provenance, whose run is live
@@ -55,7 +56,7 @@ pub record Inv (K : Fixed) (s : State) (b : Ledger) : Type 0 where
   pub mem : (g : ℕ) → get_or s.tags g false ≡ true → (a : Capability) × (capability_at s.bytes g ≡ Some a) × Sound s.cells b.latest b.grants a (b.granules g)
   pub waiting : AllLive s.cells b.latest b.grants s.waiting
   pub painted : AllLive s.cells b.latest b.grants s.painted
-  pub ends : (r : Run) → Among r (s.painted ++ s.waiting) → get_or s.cells (r.start + r.length) free ≡ rest → ⊥
+  pub ends : (r : Run) → Among r (s.painted ++ s.waiting) → get_or s.cells (r.start + r.length) Free ≡ Rest → ⊥
   pub once : Once (s.painted ++ s.waiting)
   pub apart : (r : Run) → Among r s.waiting → in_runs s.painted r.start ≡ false
   pub numbered : (k : ℕ) (g : Grant) → b.grants k ≡ Some g → (k < b.next) × (top_of g.whole ≤ 16 * K.memory_granules)

@@ -6,7 +6,9 @@ use Rattle.std.proofs.lemmas.List.{get_or_default, get_or-drop, get_or-map, get_
 use Rattle.std.proofs.lemmas.Bool.{and_from, cases_Bool, cases_eq, cases_lt, cond-false, cond-true, eq-eqb, le-leb, lt-ltb, ne_eqb, or_left, or_right}
 use Rattle.std.proofs.lemmas.Bool.Decides.{nat_tests}
 use Rattle.allocator.specs.Allocators.{Allocation, releasing}
-use Rattle.allocator.specs.Maps.{Cell, free, first, rest, is_first, rests_in_front, run_length, run_of}
+use Rattle.allocator.specs.declared.cell.Cell.{Cell}
+use Rattle.allocator.specs.declared.cell.Cell.TheVariants.{Free, First, Rest}
+use Rattle.allocator.specs.Maps.{is_first, rests_in_front, run_length, run_of}
 use Rattle.authority.specs.Capabilities.{Authority, base_of, top_of, permissions_of, capability_of, meet_authority}
 use Rattle.authority.specs.Images.{image_of, word_at}
 use Rattle.authority.specs.PermissionsMeet.{permissions_from}
@@ -209,45 +211,45 @@ derived_within a d lo len p e = within_derived a a d lo len p (within_self a) e
 pub length_taken : (cs : List Cell) (b n : ℕ) → 0 < n → b + n ≤ length cs → length (paste cs b (run_of n) n) ≡ length cs
 length_taken cs b n z h = let e = run_length_of n in length-paste cs b (run_of n) n h (omega arith)
 
-pub get_taken : (cs : List Cell) (b n g : ℕ) → 0 < n → b + n ≤ length cs → get_or (paste cs b (run_of n) n) g free ≡ cond (within b n g) (cond (eqb g b) first rest) (get_or cs g free)
-get_taken cs b n g z h = paste_place cs (run_of n) b n g free h (run_length_of n) ∙ (elim (cases_Bool (within b n g)) [
+pub get_taken : (cs : List Cell) (b n g : ℕ) → 0 < n → b + n ≤ length cs → get_or (paste cs b (run_of n) n) g Free ≡ cond (within b n g) (cond (eqb g b) First Rest) (get_or cs g Free)
+get_taken cs b n g z h = paste_place cs (run_of n) b n g Free h (run_length_of n) ∙ (elim (cases_Bool (within b n g)) [
   | inl y ↦ let w = within_true b n g y in cond-true (within b n g) _ _ y
-      ∙ (run_place n (g - b) free (omega arith)
-      ∙ (ap (λ (t : Bool). cond t first rest) (eqb_same (g - b) 0 g b (λ q. omega arith) (λ q. omega arith)) ∙ sym (cond-true (within b n g) _ _ y)))
+      ∙ (run_place n (g - b) Free (omega arith)
+      ∙ (ap (λ (t : Bool). cond t First Rest) (eqb_same (g - b) 0 g b (λ q. omega arith) (λ q. omega arith)) ∙ sym (cond-true (within b n g) _ _ y)))
   | inr y ↦ cond-false (within b n g) _ _ y ∙ sym (cond-false (within b n g) _ _ y)
 ])
 
 -- what a run's length tells
 
-pub run_first : (cs : List Cell) (b : ℕ) → 0 < run_length cs b → get_or cs b free ≡ first
+pub run_first : (cs : List Cell) (b : ℕ) → 0 < run_length cs b → get_or cs b Free ≡ First
 unfolding run_length
-run_first cs b h = go (get_or cs b free) h
+run_first cs b h = go (get_or cs b Free) h
   where
-    go : (x : Cell) → 0 < cond (is_first x) (suc (rests_in_front (drop (b + 1) cs))) 0 → x ≡ first
-    go free h = absurd (let f : ⊥ = omega arith in f)
-    go first h = refl
-    go rest h = absurd (let f : ⊥ = omega arith in f)
+    go : (x : Cell) → 0 < cond (is_first x) (suc (rests_in_front (drop (b + 1) cs))) 0 → x ≡ First
+    go Free h = absurd (let f : ⊥ = omega arith in f)
+    go First h = refl
+    go Rest h = absurd (let f : ⊥ = omega arith in f)
 
 -- a run's length where it has a first
-run_start : (cs : List Cell) (b : ℕ) → get_or cs b free ≡ first → run_length cs b ≡ suc (rests_in_front (drop (b + 1) cs))
+run_start : (cs : List Cell) (b : ℕ) → get_or cs b Free ≡ First → run_length cs b ≡ suc (rests_in_front (drop (b + 1) cs))
 unfolding run_length
 run_start cs b e = ap (λ (x : Cell). cond (is_first x) (suc (rests_in_front (drop (b + 1) cs))) 0) e
 
 -- the k-th place after a first
-after_first : (cs : List Cell) (b k g : ℕ) → g ≡ b + 1 + k → get_or (drop (b + 1) cs) k free ≡ get_or cs g free
-after_first cs b k g e = get_or-drop (b + 1) cs k free ∙ ap (λ (i : ℕ). get_or cs i free) (sym e)
+after_first : (cs : List Cell) (b k g : ℕ) → g ≡ b + 1 + k → get_or (drop (b + 1) cs) k Free ≡ get_or cs g Free
+after_first cs b k g e = get_or-drop (b + 1) cs k Free ∙ ap (λ (i : ℕ). get_or cs i Free) (sym e)
 
-pub run_rest : (cs : List Cell) (b g : ℕ) → b < g → g < b + run_length cs b → get_or cs g free ≡ rest
+pub run_rest : (cs : List Cell) (b g : ℕ) → b < g → g < b + run_length cs b → get_or cs g Free ≡ Rest
 run_rest cs b g lo hi =
     let s = run_start cs b (run_first cs b (omega arith)) in
     sym (after_first cs b (g - (b + 1)) g (omega arith)) ∙ rests_rest (drop (b + 1) cs) (g - (b + 1)) (omega arith)
 
-pub run_end : (cs : List Cell) (b : ℕ) → 0 < run_length cs b → get_or cs (b + run_length cs b) free ≡ rest → ⊥
+pub run_end : (cs : List Cell) (b : ℕ) → 0 < run_length cs b → get_or cs (b + run_length cs b) Free ≡ Rest → ⊥
 run_end cs b h e =
     let s = run_start cs b (run_first cs b h) in
     rests_end (drop (b + 1) cs) (after_first cs b (rests_in_front (drop (b + 1) cs)) (b + run_length cs b) (omega arith) ∙ e)
 
-pub run_is : (cs : List Cell) (b n : ℕ) → 0 < n → get_or cs b free ≡ first → ((g : ℕ) → b < g → g < b + n → get_or cs g free ≡ rest) → (get_or cs (b + n) free ≡ rest → ⊥) → run_length cs b ≡ n
+pub run_is : (cs : List Cell) (b n : ℕ) → 0 < n → get_or cs b Free ≡ First → ((g : ℕ) → b < g → g < b + n → get_or cs g Free ≡ Rest) → (get_or cs (b + n) Free ≡ Rest → ⊥) → run_length cs b ≡ n
 run_is cs b n z f r e =
     let s = run_start cs b f in
     let least = rests_least (drop (b + 1) cs) (n - 1) (λ k lt. after_first cs b k (b + 1 + k) refl ∙ r (b + 1 + k) (omega arith) (omega arith)) in
@@ -373,8 +375,8 @@ get_wiped_tags (r ∷ rs) ts g h =
 
 pub record WholeRun (cs : List Cell) (r : Run) : Type 0 where
   pub some : 0 < r.length
-  pub cells : (g : ℕ) → r.start ≤ g → g < r.start + r.length → get_or cs g free ≡ cond (eqb g r.start) first rest
-  pub end : get_or cs (r.start + r.length) free ≡ rest → ⊥
+  pub cells : (g : ℕ) → r.start ≤ g → g < r.start + r.length → get_or cs g Free ≡ cond (eqb g r.start) First Rest
+  pub end : get_or cs (r.start + r.length) Free ≡ Rest → ⊥
 
 -- no two of the runs share a granule
 abbrev pub Disjoint : List Run → Type 0
@@ -389,34 +391,34 @@ in_among (x ∷ rs) r g (inr a) h = or_right (in_run x g) (in_runs rs g) (in_amo
 
 -- the map with one run freed
 abbrev freed : Run → List Cell → List Cell
-freed r cs = paste cs r.start (replicate r.length free) r.length
+freed r cs = paste cs r.start (replicate r.length Free) r.length
 
 -- a run of the map lies inside it
 whole_inside : (cs : List Cell) (r : Run) → WholeRun cs r → r.start + r.length ≤ length cs
 whole_inside cs r w = elim (cases_lt (r.start + r.length - 1) (length cs)) [
   | inl h ↦ (let p = w.some in omega arith)
-  | inr h ↦ (let p = w.some in absurd (never (eqb (r.start + r.length - 1) r.start) (sym (w.cells (r.start + r.length - 1) (omega arith) (omega arith)) ∙ get_or_past cs (r.start + r.length - 1) free h)))
+  | inr h ↦ (let p = w.some in absurd (never (eqb (r.start + r.length - 1) r.start) (sym (w.cells (r.start + r.length - 1) (omega arith) (omega arith)) ∙ get_or_past cs (r.start + r.length - 1) Free h)))
 ]
   where
-    never : (t : Bool) → cond t first rest ≡ free → ⊥
+    never : (t : Bool) → cond t First Rest ≡ Free → ⊥
     never true e = let z : ◌≡◌ {A = ℕ} 0 1 = cc in omega arith
     never false e = let z : ◌≡◌ {A = ℕ} 0 1 = cc in omega arith
 
 -- its length in the map is its own
 whole_length : (cs : List Cell) (r : Run) → WholeRun cs r → run_length cs r.start ≡ r.length
 whole_length cs r w = let p = w.some in run_is cs r.start r.length p
-    (w.cells r.start (omega arith) (omega arith) ∙ cond-true (eqb r.start r.start) first rest (eq-eqb r.start r.start refl))
-    (λ g lo hi. w.cells g (omega arith) hi ∙ cond-false (eqb g r.start) first rest (ne_eqb g r.start (λ e. omega arith)))
+    (w.cells r.start (omega arith) (omega arith) ∙ cond-true (eqb r.start r.start) First Rest (eq-eqb r.start r.start refl))
+    (λ g lo hi. w.cells g (omega arith) hi ∙ cond-false (eqb g r.start) First Rest (ne_eqb g r.start (λ e. omega arith)))
     w.end
 
 -- releasing one run frees its granules
 released_one : (cs : List Cell) (r : Run) → WholeRun cs r → (releasing cs 0 r.start).cells ≡ freed r cs
 released_one cs r w = let p = w.some in let l = whole_length cs r w in
     ap (λ (a : Allocation). a.cells) (cond-true (ltb 0 (run_length cs r.start)) _ _ (lt-ltb 0 (run_length cs r.start) (omega arith)))
-    ∙ ap (λ (n : ℕ). paste cs r.start (replicate n free) n) l
+    ∙ ap (λ (n : ℕ). paste cs r.start (replicate n Free) n) l
 
-freed_place : (cs : List Cell) (r : Run) (g : ℕ) → WholeRun cs r → get_or (freed r cs) g free ≡ cond (in_run r g) free (get_or cs g free)
-freed_place cs r g w = fill_place cs r.start r.length g free free (whole_inside cs r w)
+freed_place : (cs : List Cell) (r : Run) (g : ℕ) → WholeRun cs r → get_or (freed r cs) g Free ≡ cond (in_run r g) Free (get_or cs g Free)
+freed_place cs r g w = fill_place cs r.start r.length g Free Free (whole_inside cs r w)
 
 -- the other runs stay
 still_whole : (cs : List Cell) (r x : Run) → WholeRun cs r → WholeRun cs x → ((g : ℕ) → in_run x g ≡ true → in_run r g ≡ false) → WholeRun (freed r cs) x
@@ -426,7 +428,7 @@ still_whole cs r x w v apart = record {
   end = λ e. go (in_run r (x.start + x.length)) (sym (freed_place cs r (x.start + x.length) w) ∙ e);
 }
   where
-    go : (t : Bool) → cond t free (get_or cs (x.start + x.length) free) ≡ rest → ⊥
+    go : (t : Bool) → cond t Free (get_or cs (x.start + x.length) Free) ≡ Rest → ⊥
     go true q = let z : ◌≡◌ {A = ℕ} 0 1 = cc in omega arith
     go false q = v.end q
 
@@ -441,12 +443,12 @@ length_released [] cs h d = refl
 length_released (r ∷ rs) cs h d =
     let w = h r (inl refl) in
     ap (λ (x : List Cell). length (released_cells rs x)) (released_one cs r w)
-    ∙ (length_released rs (freed r cs) (others_whole cs r rs h d) d.1 ∙ fill_length cs r.start r.length free (whole_inside cs r w))
+    ∙ (length_released rs (freed r cs) (others_whole cs r rs h d) d.1 ∙ fill_length cs r.start r.length Free (whole_inside cs r w))
 
-pub get_released : (rs : List Run) (cs : List Cell) (g : ℕ) → ((r : Run) → Among r rs → WholeRun cs r) → Disjoint rs → get_or (released_cells rs cs) g free ≡ cond (in_runs rs g) free (get_or cs g free)
+pub get_released : (rs : List Run) (cs : List Cell) (g : ℕ) → ((r : Run) → Among r rs → WholeRun cs r) → Disjoint rs → get_or (released_cells rs cs) g Free ≡ cond (in_runs rs g) Free (get_or cs g Free)
 get_released [] cs g h d = refl
 get_released (r ∷ rs) cs g h d =
     let w = h r (inl refl) in
-    ap (λ (x : List Cell). get_or (released_cells rs x) g free) (released_one cs r w)
+    ap (λ (x : List Cell). get_or (released_cells rs x) g Free) (released_one cs r w)
     ∙ (get_released rs (freed r cs) g (others_whole cs r rs h d) d.1
-    ∙ (ap (λ (x : Cell). cond (in_runs rs g) free x) (freed_place cs r g w) ∙ two_ways (in_run r g) (in_runs rs g) free (get_or cs g free)))
+    ∙ (ap (λ (x : Cell). cond (in_runs rs g) Free x) (freed_place cs r g w) ∙ two_ways (in_run r g) (in_runs rs g) Free (get_or cs g Free)))

@@ -3,7 +3,9 @@ use Rattle.std.proofs.Common.{◌≡◌, ℕ, zero, suc, ◌+◌, ◌-◌, ◌*�
 use lib.Seq.{paste}
 use Rattle.std.proofs.lemmas.Bool.Decides.{nat_tests}
 use Rattle.std.proofs.lemmas.Bool.{or_cases, or_parts, or_from, cases_Bool, cases_lt, cond-true, cond-false, ne_eqb, eq-eqb, eqb-true}
-use Rattle.allocator.specs.Maps.{Cell, FreeAt, free, first, rest, run_length, run_of}
+use Rattle.allocator.specs.declared.cell.Cell.{Cell}
+use Rattle.allocator.specs.declared.cell.Cell.TheVariants.{Free, First, Rest}
+use Rattle.allocator.specs.Maps.{FreeAt, run_length, run_of}
 use Rattle.authority.specs.Capabilities.{base_of, capability_of, top_of}
 use Rattle.authority.specs.Masks.{all_permissions}
 use Rattle.authority.specs.declared.capability.Capability.{Capability}
@@ -16,29 +18,29 @@ use Rattle.history.proofs.Invariant.{AllLive, Live, Once, Sound, part}
 
 -- cells differ
 
-pub first_free : {X : Type 0} → first ≡ free → X
+pub first_free : {X : Type 0} → First ≡ Free → X
 first_free e = let z : ◌≡◌ {A = ℕ} 0 1 = cc in absurd (let f : ⊥ = omega arith in f)
 
-pub rest_free : {X : Type 0} → rest ≡ free → X
+pub rest_free : {X : Type 0} → Rest ≡ Free → X
 rest_free e = let z : ◌≡◌ {A = ℕ} 0 1 = cc in absurd (let f : ⊥ = omega arith in f)
 
-pub first_rest : {X : Type 0} → first ≡ rest → X
+pub first_rest : {X : Type 0} → First ≡ Rest → X
 first_rest e = let z : ◌≡◌ {A = ℕ} 0 1 = cc in absurd (let f : ⊥ = omega arith in f)
 
 -- the parts of a run
 
-pub part_taken : (w : Run) (g : ℕ) → part w g ≡ free → ⊥
+pub part_taken : (w : Run) (g : ℕ) → part w g ≡ Free → ⊥
 part_taken w g e = go (eqb g w.start) e
   where
-    go : (b : Bool) → cond b first rest ≡ free → ⊥
+    go : (b : Bool) → cond b First Rest ≡ Free → ⊥
     go true e = first_free e
     go false e = rest_free e
 
-pub part_first : (w : Run) (g : ℕ) → part w g ≡ first → g ≡ w.start
-part_first w g e = elim (cases_Bool (eqb g w.start)) [ inl y ↦ eqb-true g w.start y | inr n ↦ first_rest (sym (sym (cond-false (eqb g w.start) first rest n) ∙ e)) ]
+pub part_first : (w : Run) (g : ℕ) → part w g ≡ First → g ≡ w.start
+part_first w g e = elim (cases_Bool (eqb g w.start)) [ inl y ↦ eqb-true g w.start y | inr n ↦ first_rest (sym (sym (cond-false (eqb g w.start) First Rest n) ∙ e)) ]
 
-pub part_rest : (w : Run) (g : ℕ) → w.start < g → part w g ≡ rest
-part_rest w g h = cond-false (eqb g w.start) first rest (ne_eqb g w.start (omega arith))
+pub part_rest : (w : Run) (g : ℕ) → w.start < g → part w g ≡ Rest
+part_rest w g h = cond-false (eqb g w.start) First Rest (ne_eqb g w.start (omega arith))
 
 -- a granule in one of several runs
 
@@ -134,7 +136,7 @@ once_more_of (x ∷ xs) ys r h n =
 
 module _ {cs : List Cell} {latest : ℕ → Option ℕ} {grants : ℕ → Option Grant} where
   -- none of its granules is free
-  pub live_taken : {k : ℕ} {w : Run} → Live cs latest grants k w → (g : ℕ) → w.start ≤ g → g < w.start + w.length → get_or cs g free ≡ free → ⊥
+  pub live_taken : {k : ℕ} {w : Run} → Live cs latest grants k w → (g : ℕ) → w.start ≤ g → g < w.start + w.length → get_or cs g Free ≡ Free → ⊥
   live_taken {w = w} l g lo hi e = part_taken w g (sym (l.cells g lo hi) ∙ e)
 
   -- the bounds of its grant
@@ -182,7 +184,7 @@ module _ {cs : List Cell} {latest : ℕ → Option ℕ} {grants : ℕ → Option
   )
 
   -- kept where other runs are released
-  pub live_kept : {k : ℕ} {w : Run} (rs : List Run) (cs' : List Cell) → ((g : ℕ) → get_or cs' g free ≡ cond (in_runs rs g) free (get_or cs g free))
+  pub live_kept : {k : ℕ} {w : Run} (rs : List Run) (cs' : List Cell) → ((g : ℕ) → get_or cs' g Free ≡ cond (in_runs rs g) Free (get_or cs g Free))
       → AllLive cs latest grants rs → Live cs latest grants k w → in_runs rs w.start ≡ false → Live cs' latest grants k w
   live_kept {k} {w} rs cs' there al l un = record {
     to = l.to;
@@ -213,7 +215,7 @@ module _ {cs : List Cell} {latest : ℕ → Option ℕ} {grants : ℕ → Option
   pub sound_base : {a : Capability} {e : Option Entry} (o : Sound cs latest grants a e) → (o.run.start ≤ base_of a / 16) × (base_of a / 16 < o.run.start + o.run.length)
   sound_base {a} o = let (x, y, z) = sound_span o in (omega arith, omega arith)
 
-  pub sound_kept : {a : Capability} {e : Option Entry} (rs : List Run) (cs' : List Cell) → ((g : ℕ) → get_or cs' g free ≡ cond (in_runs rs g) free (get_or cs g free))
+  pub sound_kept : {a : Capability} {e : Option Entry} (rs : List Run) (cs' : List Cell) → ((g : ℕ) → get_or cs' g Free ≡ cond (in_runs rs g) Free (get_or cs g Free))
       → AllLive cs latest grants rs → Sound cs latest grants a e → in_runs rs (base_of a / 16) ≡ false → Sound cs' latest grants a e
   unfolding live_kept
   sound_kept {a} rs cs' there al o out = let q = sound_base o in record {
@@ -242,12 +244,12 @@ module _ (cs : List Cell) (latest : ℕ → Option ℕ) (grants : ℕ → Option
   abbrev pub more : ℕ → Option Grant
   more = put_at grants k₀ (Some (record { to = to; whole = whole }))
 
-  pub room_free : (g : ℕ) → b ≤ g → g < b + n → get_or cs g free ≡ free
+  pub room_free : (g : ℕ) → b ≤ g → g < b + n → get_or cs g Free ≡ Free
   room_free g lo hi =
       let e : b + (g - b) ≡ g = omega arith in
-      known cs g (omega (arith, room.0)) (ap (λ (x : ℕ). get_or cs x rest) (sym e) ∙ room.1 (g - b) (omega arith))
+      known cs g (omega (arith, room.0)) (ap (λ (x : ℕ). get_or cs x Rest) (sym e) ∙ room.1 (g - b) (omega arith))
     where
-      known : (xs : List Cell) (i : ℕ) → i < length xs → get_or xs i rest ≡ free → get_or xs i free ≡ free
+      known : (xs : List Cell) (i : ℕ) → i < length xs → get_or xs i Rest ≡ Free → get_or xs i Free ≡ Free
       known [] i lt e = absurd (let f : ⊥ = omega arith in f)
       known (x ∷ xs) zero lt e = e
       known (x ∷ xs) (suc i) lt e = known xs i (omega arith) e

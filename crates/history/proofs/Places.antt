@@ -4,7 +4,9 @@ use lib.Seq.{paste}
 use Rattle.std.proofs.lemmas.List.Edits.{length-paste}
 use Rattle.std.proofs.lemmas.List.{places, length-replicate, get_or-replicate, get_or-set_same, get_or-set_other}
 use Rattle.std.proofs.lemmas.Bool.{cases_eq, cases_lt, cases_Bool, cond-true, cond-false, eq-eqb, ne_eqb, and_from, and_left, and_right, le-leb, lt-leb, lt-ltb, le-ltb}
-use Rattle.allocator.specs.Maps.{Cell, free, first, rest, rests_in_front, run_of}
+use Rattle.allocator.specs.declared.cell.Cell.{Cell}
+use Rattle.allocator.specs.declared.cell.Cell.TheVariants.{Free, First, Rest}
+use Rattle.allocator.specs.Maps.{rests_in_front, run_of}
 use Rattle.history.proofs.Base.{within, no_yes}
 
 -- two tests of one fact
@@ -66,33 +68,33 @@ fill_length xs b n v l = let e = length-replicate n v in length-paste xs b (repl
 -- a run's own places
 pub run_length_of : (n : ℕ) → length (run_of n) ≡ n
 run_length_of zero = refl
-run_length_of (suc n) = ap suc (length-replicate n rest)
+run_length_of (suc n) = ap suc (length-replicate n Rest)
 
-pub run_place : (n k : ℕ) (d : Cell) → k < n → get_or (run_of n) k d ≡ cond (eqb k 0) first rest
+pub run_place : (n k : ℕ) (d : Cell) → k < n → get_or (run_of n) k d ≡ cond (eqb k 0) First Rest
 run_place zero k d h = absurd (let f : ⊥ = omega arith in f)
 run_place (suc n) zero d h = refl
-run_place (suc n) (suc k) d h = get_or-replicate n k rest d (omega arith) ∙ sym (cond-false (eqb (suc k) 0) first rest (ne_eqb (suc k) 0 (λ e. omega arith)))
+run_place (suc n) (suc k) d h = get_or-replicate n k Rest d (omega arith) ∙ sym (cond-false (eqb (suc k) 0) First Rest (ne_eqb (suc k) 0 (λ e. omega arith)))
 
 -- the rests at the front
-pub rests_rest : (cs : List Cell) (g : ℕ) → g < rests_in_front cs → get_or cs g free ≡ rest
+pub rests_rest : (cs : List Cell) (g : ℕ) → g < rests_in_front cs → get_or cs g Free ≡ Rest
 unfolding rests_in_front
 rests_rest [] g h = absurd (let f : ⊥ = omega arith in f)
-rests_rest (free ∷ cs) g h = absurd (let f : ⊥ = omega arith in f)
-rests_rest (first ∷ cs) g h = absurd (let f : ⊥ = omega arith in f)
-rests_rest (rest ∷ cs) zero h = refl
-rests_rest (rest ∷ cs) (suc g) h = rests_rest cs g (omega arith)
+rests_rest (Free ∷ cs) g h = absurd (let f : ⊥ = omega arith in f)
+rests_rest (First ∷ cs) g h = absurd (let f : ⊥ = omega arith in f)
+rests_rest (Rest ∷ cs) zero h = refl
+rests_rest (Rest ∷ cs) (suc g) h = rests_rest cs g (omega arith)
 
-pub rests_end : (cs : List Cell) → get_or cs (rests_in_front cs) free ≡ rest → ⊥
+pub rests_end : (cs : List Cell) → get_or cs (rests_in_front cs) Free ≡ Rest → ⊥
 unfolding rests_in_front
 rests_end [] e = let z : ◌≡◌ {A = ℕ} 0 1 = cc in omega arith
-rests_end (free ∷ cs) e = let z : ◌≡◌ {A = ℕ} 0 1 = cc in omega arith
-rests_end (first ∷ cs) e = let z : ◌≡◌ {A = ℕ} 0 1 = cc in omega arith
-rests_end (rest ∷ cs) e = rests_end cs e
+rests_end (Free ∷ cs) e = let z : ◌≡◌ {A = ℕ} 0 1 = cc in omega arith
+rests_end (First ∷ cs) e = let z : ◌≡◌ {A = ℕ} 0 1 = cc in omega arith
+rests_end (Rest ∷ cs) e = rests_end cs e
 
-pub rests_least : (cs : List Cell) (n : ℕ) → ((g : ℕ) → g < n → get_or cs g free ≡ rest) → n ≤ rests_in_front cs
+pub rests_least : (cs : List Cell) (n : ℕ) → ((g : ℕ) → g < n → get_or cs g Free ≡ Rest) → n ≤ rests_in_front cs
 unfolding rests_in_front
 rests_least cs zero h = omega arith
 rests_least [] (suc n) h = let e = h 0 (omega arith) in let z : ◌≡◌ {A = ℕ} 0 1 = cc in absurd (let f : ⊥ = omega arith in f)
-rests_least (free ∷ cs) (suc n) h = let e = h 0 (omega arith) in let z : ◌≡◌ {A = ℕ} 0 1 = cc in absurd (let f : ⊥ = omega arith in f)
-rests_least (first ∷ cs) (suc n) h = let e = h 0 (omega arith) in let z : ◌≡◌ {A = ℕ} 0 1 = cc in absurd (let f : ⊥ = omega arith in f)
-rests_least (rest ∷ cs) (suc n) h = let i = rests_least cs n (λ g lt. h (suc g) (omega arith)) in omega arith
+rests_least (Free ∷ cs) (suc n) h = let e = h 0 (omega arith) in let z : ◌≡◌ {A = ℕ} 0 1 = cc in absurd (let f : ⊥ = omega arith in f)
+rests_least (First ∷ cs) (suc n) h = let e = h 0 (omega arith) in let z : ◌≡◌ {A = ℕ} 0 1 = cc in absurd (let f : ⊥ = omega arith in f)
+rests_least (Rest ∷ cs) (suc n) h = let i = rests_least cs n (λ g lt. h (suc g) (omega arith)) in omega arith

@@ -2,7 +2,8 @@
 use Rattle.std.proofs.Common.{◌≡◌, ℕ, ◌+◌, ◌-◌, ◌<◌, ◌≤◌, Bool, true, false, cond, eqb, ◌⊎◌, List, [], ◌∷◌, ◌++◌, length, get_or, Ok, sym, refl, ap, ◌∙◌, subst, inl, inr, add-zero, arith}
 use Rattle.std.proofs.lemmas.List.{append_assoc, append-nil, get_or_default}
 use Rattle.std.proofs.lemmas.Bool.{cases_Bool, cond-true, cond-false}
-use Rattle.allocator.specs.Maps.{first, free, rest, FreeAt}
+use Rattle.allocator.specs.declared.cell.Cell.TheVariants.{Free, First, Rest}
+use Rattle.allocator.specs.Maps.{FreeAt}
 use Rattle.authority.specs.Capabilities.{base_of}
 use Rattle.machine.specs.Calls.{Call}
 use Rattle.machine.specs.Model.{Effect, Fixed, State, fresh_state, outcome, state_after}
@@ -166,7 +167,7 @@ on_run K (x ∷ q) s m sw h lt =
 
 -- the step that ends the sweep
 at_end : (K : Fixed) (s : State) (b : Ledger) → Inv K s b → (m k : ℕ) → s.sweep ≡ Open m → K.memory_granules ≤ m + k → {d : Effect} → View K s (Call.Step k) d → (a : ℕ) → outcome d ≡ Ok a
-    → (g : ℕ) → in_runs s.painted g ≡ true → get_or (state_after s d).cells g free ≡ free
+    → (g : ℕ) → in_runs s.painted g ≡ true → get_or (state_after s d).cells g Free ≡ Free
 at_end K s b v m k sw le v_no a q g i = err_ok q
 at_end K s b v m k sw le (v_pass p pos e lt) a q g i = let z : p ≡ m = cc in absurd (let f : ⊥ = omega arith in f)
 at_end K s b v m k sw le (v_end p pos e l) a q g i = painted_released K s b v g ∙ cond-true _ _ _ i
@@ -290,7 +291,7 @@ pub returned : (K : Fixed) (p q : List Call) (r : Run) (a : ℕ) → Sized K →
 returned K p q r a sz acc w un lt = record {
   not_yet = subst (λ (y : State). NoneFree y r) (sym go_on) taken;
   then = λ k c ans le g i.
-      subst (λ (y : State). get_or y.cells g free ≡ free) (sym (last (Call.Step k)))
+      subst (λ (y : State). get_or y.cells g Free ≡ Free) (sym (last (Call.Step k)))
       (at_end K t _ inv (0 + named) k on.0 (omega (arith, n_same)) (view K t (Call.Step k)) c (subst (λ (y : State). outcome (perform K y (Call.Step k)) ≡ Ok c) go_on ans) g (in_among t.painted r g am i.0 i.1));
   shut = λ c ans. all_wait K (p ++ (Call.OpenSweep ∷ (q ++ (Call.Shut ∷ [])))) sz r
       (subst (λ (y : State). Among r (y.painted ++ y.waiting)) (sym (last Call.Shut)) (after_shut K t (view K t Call.Shut) r (among_left t.painted t.waiting r am)));
@@ -455,8 +456,8 @@ frees K s b v (v_grant {n = n} at next hc hr pos same e) g t f = absurd (t (was 
         let w = within_true at n g q in
         let z : at + (g - at) ≡ g = omega arith in
         let h = room.1 (g - at) (omega arith) in
-        ap (λ i. get_or s.cells i free) (sym z) ∙ (get_or_default s.cells (at + (g - at)) free rest (omega (arith, room.0)) ∙ h)
-    was false q = sym (cond-false (within at n g) (cond (eqb g at) first rest) (get_or s.cells g free) q) ∙ (sym (get_taken s.cells at n g pos room.0) ∙ f)
+        ap (λ i. get_or s.cells i Free) (sym z) ∙ (get_or_default s.cells (at + (g - at)) Free Rest (omega (arith, room.0)) ∙ h)
+    was false q = sym (cond-false (within at n g) (cond (eqb g at) First Rest) (get_or s.cells g Free) q) ∙ (sym (get_taken s.cells at n g pos room.0) ∙ f)
 frees K s b v (v_free a hc hr e own al whole w) g t f = absurd (t f)
 frees K s b v (v_derive a d hc hr ht e q) g t f = absurd (t f)
 frees K s b v (v_getb a hc hr e perm lt) g t f = absurd (t f)
@@ -469,7 +470,7 @@ frees K s b v (v_open e) g t f = absurd (t f)
 frees K s b v (v_pass p pos e lt) g t f = absurd (t f)
 frees K s b v (v_end {k} p pos e le) g t f = elim (cases_Bool (in_runs s.painted g)) [
   | inl y ↦ (k, p, refl, e, le, y)
-  | inr y ↦ absurd (t (sym (cond-false (in_runs s.painted g) free (get_or s.cells g free) y) ∙ (sym (painted_released K s b v g) ∙ f)))
+  | inr y ↦ absurd (t (sym (cond-false (in_runs s.painted g) Free (get_or s.cells g Free) y) ∙ (sym (painted_released K s b v g) ∙ f)))
 ]
 frees K s b v (v_shut p e) g t f = absurd (t f)
 

@@ -1,20 +1,22 @@
 -- Room for a new run, and the bytes of its granules.
 use Rattle.std.proofs.Common.{◌≡◌, ℕ, zero, suc, ◌+◌, ◌-◌, ◌*◌, ◌/◌, ◌<◌, ◌≤◌, Bool, true, ◌&&◌, ltb, leb, List, [], ◌∷◌, length, get_or, sym, refl, ◌∙◌, subst, inl, inr, arith}
 use Rattle.std.proofs.lemmas.Bool.{and_parts, cases_Bool, le-leb, leb-false, leb-true, ltb-true}
-use Rattle.allocator.specs.Maps.{Cell, FreeAt, free, rest}
+use Rattle.allocator.specs.declared.cell.Cell.{Cell}
+use Rattle.allocator.specs.declared.cell.Cell.TheVariants.{Free, Rest}
+use Rattle.allocator.specs.Maps.{FreeAt}
 
 -- room for a run of n granules at b
 
 abbrev pub Room : List Cell → ℕ → ℕ → Type 0
-Room cs b n = (b + n ≤ length cs) × ((g : ℕ) → b ≤ g → g < b + n → get_or cs g free ≡ free)
+Room cs b n = (b + n ≤ length cs) × ((g : ℕ) → b ≤ g → g < b + n → get_or cs g Free ≡ Free)
 
-free_any : (cs : List Cell) (i : ℕ) → get_or cs i rest ≡ free → get_or cs i free ≡ free
+free_any : (cs : List Cell) (i : ℕ) → get_or cs i Rest ≡ Free → get_or cs i Free ≡ Free
 free_any [] i e = refl
 free_any (x ∷ cs) zero e = e
 free_any (x ∷ cs) (suc i) e = free_any cs i e
 
 pub room : (cs : List Cell) (b n : ℕ) → FreeAt cs b n → Room cs b n
-room cs b n f = (f.0, λ g lo hi. let z : b + (g - b) ≡ g = omega arith in free_any cs g (subst (λ (x : ℕ). get_or cs x rest ≡ free) z (f.1 (g - b) (omega arith))))
+room cs b n f = (f.0, λ g lo hi. let z : b + (g - b) ≡ g = omega arith in free_any cs g (subst (λ (x : ℕ). get_or cs x Rest ≡ Free) z (f.1 (g - b) (omega arith))))
 
 -- the bytes of a new run
 

@@ -2,7 +2,8 @@
 use Rattle.std.proofs.Common.{◌≡◌, ℕ, ◌+◌, ◌-◌, ◌*◌, ◌/◌, ◌<◌, ◌≤◌, false, List, [], ◌∷◌, Some, None, Option, sym, refl, ap, ◌∙◌, subst, arith}
 use lib.ListN.{length-replicate}
 use lib.Seq.{paste}
-use Rattle.allocator.specs.Maps.{free, run_of}
+use Rattle.allocator.specs.declared.cell.Cell.TheVariants.{Free}
+use Rattle.allocator.specs.Maps.{run_of}
 use Rattle.authority.specs.Capabilities.{base_of, top_of, capability_of}
 use Rattle.authority.specs.Masks.{all_permissions}
 use Rattle.authority.specs.declared.capability.Capability.{Capability}
@@ -111,7 +112,7 @@ inv_fresh K h = record {
   sized = h;
   l_bytes = length-replicate (16 * K.memory_granules) 0;
   l_tags = length-replicate K.memory_granules false;
-  l_cells = length-replicate K.allocator_granules free;
+  l_cells = length-replicate K.allocator_granules Free;
   shaped = shaped_fresh;
   regs = λ i a e. some_none (sym (sym (reg_fresh i) ∙ e));
   mem = λ g e. no_yes (sym (sym (none_at K.memory_granules g false) ∙ e));

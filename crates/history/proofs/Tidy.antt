@@ -2,7 +2,9 @@
 use Rattle.std.proofs.Common.{◌≡◌, ℕ, ◌+◌, ◌-◌, ◌*◌, ◌/◌, ◌<◌, ◌≤◌, Bool, true, false, cond, ◌&&◌, eqb, ltb, leb, List, get_or, set, Some, None, Option, sym, refl, ap, ◌∙◌, subst, inl, inr, arith}
 use lib.Seq.{paste}
 use Rattle.std.proofs.lemmas.Bool.{cases_Bool, cond-false, cond-true, eq-eqb, eqb-true, ne_eqb}
-use Rattle.allocator.specs.Maps.{Cell, free, first, rest, run_of}
+use Rattle.allocator.specs.declared.cell.Cell.{Cell}
+use Rattle.allocator.specs.declared.cell.Cell.TheVariants.{Free, First, Rest}
+use Rattle.allocator.specs.Maps.{run_of}
 use Rattle.authority.specs.Capabilities.{base_of, top_of}
 use Rattle.authority.specs.Images.{word_at}
 use Rattle.authority.specs.declared.capability.Capability.{Capability}
@@ -27,8 +29,8 @@ abbrev pub Side : Group → (ℕ → Option Grant) → Option Entry → Bool →
 Side m grants o y = (n : Entry) (w : Grant) → o ≡ Some n → grants n.provenance ≡ Some w → m w.to ≡ y
 
 pub record Tidy (m : Group) (s : State) (b : Ledger) : Type 0 where
-  pub free_tags : (g : ℕ) → get_or s.cells g free ≡ free → get_or s.tags g false ≡ false
-  pub free_bytes : (i : ℕ) → get_or s.cells (i / 16) free ≡ free → get_or s.bytes i 0 ≡ 0
+  pub free_tags : (g : ℕ) → get_or s.cells g Free ≡ Free → get_or s.tags g false ≡ false
+  pub free_bytes : (i : ℕ) → get_or s.cells (i / 16) Free ≡ Free → get_or s.bytes i 0 ≡ 0
   pub dated : (i k : ℕ) → b.latest i ≡ Some k → k < b.next
   pub even : (i j : ℕ) → i / 16 ≡ j / 16 → b.latest i ≡ b.latest j
   pub reg_side : (i : ℕ) (a : Capability) → reg s i ≡ Some a → Side m b.grants (b.registers i) (m (i / 8))
@@ -45,7 +47,7 @@ clear_still false e = e
 
 module _ (m : Group) (K : Fixed) (s : State) (b : Ledger) (v : Inv K s b) (d : Tidy m s b) where
   -- the granule of a register's capability is taken, and belongs to the register's side
-  pub reg_taken : (i : ℕ) (a : Capability) → reg s i ≡ Some a → (x : ℕ) → base_of a ≤ x → x < top_of a → get_or s.cells (x / 16) free ≡ free → ⊥
+  pub reg_taken : (i : ℕ) (a : Capability) → reg s i ≡ Some a → (x : ℕ) → base_of a ≤ x → x < top_of a → get_or s.cells (x / 16) Free ≡ Free → ⊥
   reg_taken i a e x lo hi =
       let o = v.regs i a e in
       let z = sound_span o in
@@ -81,11 +83,11 @@ module _ (m : Group) (K : Fixed) (s : State) (b : Ledger) (v : Inv K s b) (d : T
       there : (j : ℕ) → reg_in (with_register_in s.registers c r o) j ≡ cond (eqb j (slot c r)) o (reg s j)
       there j = reg_put s.registers c r j o v.shaped hc hr
 
-  tidy_byte : (a x : ℕ) → a < 16 * K.memory_granules → (get_or s.cells (a / 16) free ≡ free → ⊥) → Tidy m (with_byte s a x) b
+  tidy_byte : (a x : ℕ) → a < 16 * K.memory_granules → (get_or s.cells (a / 16) Free ≡ Free → ⊥) → Tidy m (with_byte s a x) b
   tidy_byte a x lt tk = record {
     free_tags = λ g e. tag g ∙ clear_still (eqb g (a / 16)) (d.free_tags g e);
     free_bytes = λ i e. get_set s.bytes a i x 0 (omega (arith, v.l_bytes)) ∙ (elim (cases_Bool (eqb i a)) [
-      | inl y ↦ absurd (tk (subst (λ (j : ℕ). get_or s.cells (j / 16) free ≡ free) (eqb-true i a y) e))
+      | inl y ↦ absurd (tk (subst (λ (j : ℕ). get_or s.cells (j / 16) Free ≡ Free) (eqb-true i a y) e))
       | inr n ↦ cond-false (eqb i a) x (get_or s.bytes i 0) n ∙ d.free_bytes i e
     ]);
     dated = d.dated;
@@ -97,17 +99,17 @@ module _ (m : Group) (K : Fixed) (s : State) (b : Ledger) (v : Inv K s b) (d : T
       tag : (g : ℕ) → get_or (set s.tags (a / 16) false) g false ≡ cond (eqb g (a / 16)) false (get_or s.tags g false)
       tag g = get_set s.tags (a / 16) g false false (omega (arith, v.l_tags))
 
-  tidy_cap : (g₀ : ℕ) (c : Capability) (o : Option Entry) → g₀ < K.memory_granules → (get_or s.cells g₀ free ≡ free → ⊥)
+  tidy_cap : (g₀ : ℕ) (c : Capability) (o : Option Entry) → g₀ < K.memory_granules → (get_or s.cells g₀ Free ≡ Free → ⊥)
       → ((k : ℕ) (w : Grant) → b.latest (16 * g₀) ≡ Some k → b.grants k ≡ Some w → Side m b.grants o (m w.to)) → Tidy m (with_capability s g₀ c) (with_granule b g₀ o)
   tidy_cap g₀ c o lt tk h = record {
     free_tags = λ g e. tag g ∙ (elim (cases_Bool (eqb g g₀)) [
-      | inl y ↦ absurd (tk (subst (λ (j : ℕ). get_or s.cells j free ≡ free) (eqb-true g g₀ y) e))
+      | inl y ↦ absurd (tk (subst (λ (j : ℕ). get_or s.cells j Free ≡ Free) (eqb-true g g₀ y) e))
       | inr n ↦ cond-false (eqb g g₀) true (get_or s.tags g false) n ∙ d.free_tags g e
     ]);
     free_bytes = λ i e. get_image s.bytes g₀ c i (omega (arith, v.l_bytes)) ∙ (elim (cases_Bool (within (16 * g₀) 16 i)) [
       | inl y ↦ let u = within_true (16 * g₀) 16 i y in
           let z : i / 16 ≡ g₀ = omega arith in
-          absurd (tk (subst (λ (j : ℕ). get_or s.cells j free ≡ free) z e))
+          absurd (tk (subst (λ (j : ℕ). get_or s.cells j Free ≡ Free) z e))
       | inr n ↦ cond-false (within (16 * g₀) 16 i) _ (get_or s.bytes i 0) n ∙ d.free_bytes i e
     ]);
     dated = d.dated;
@@ -167,18 +169,18 @@ module _ (m : Group) (K : Fixed) (s : State) (b : Ledger) (v : Inv K s b) (d : T
           let lt = (v.numbered w.provenance _ w.live.granted).0 in
           h q g eq (sym (cond-false (eqb q.provenance b.next) (Some (record { to = c; whole = it })) (b.grants q.provenance) (ne_eqb q.provenance b.next (omega arith))) ∙ has)
 
-      was_free : (g : ℕ) → get_or (paste s.cells at (run_of n) n) g free ≡ free → get_or s.cells g free ≡ free
+      was_free : (g : ℕ) → get_or (paste s.cells at (run_of n) n) g Free ≡ Free → get_or s.cells g Free ≡ Free
       was_free g e = elim (cases_Bool (within at n g)) [
         | inl y ↦ let z = within_true at n g y in rm.1 g z.0 z.1
-        | inr x ↦ sym (cond-false (within at n g) (cond (eqb g at) first rest) (get_or s.cells g free) x) ∙ sym (get_taken s.cells at n g pos rm.0) ∙ e
+        | inr x ↦ sym (cond-false (within at n g) (cond (eqb g at) First Rest) (get_or s.cells g Free) x) ∙ sym (get_taken s.cells at n g pos rm.0) ∙ e
       ]
 
   -- a change that only takes tags and registers, and leaves the rest
   tidy_fewer : (t : State) → t.cells ≡ s.cells → t.bytes ≡ s.bytes → ((g : ℕ) → get_or t.tags g false ≡ true → get_or s.tags g false ≡ true)
       → ((i : ℕ) (a : Capability) → reg t i ≡ Some a → reg s i ≡ Some a) → Tidy m t b
   tidy_fewer t es eb ht hr = record {
-    free_tags = λ g e. elim (cases_Bool (get_or t.tags g false)) [ inl y ↦ no_yes (sym (ht g y) ∙ d.free_tags g (ap (λ (l : List Cell). get_or l g free) (sym es) ∙ e)) | inr n ↦ n ];
-    free_bytes = λ i e. ap (λ (l : List ℕ). get_or l i 0) eb ∙ d.free_bytes i (ap (λ (l : List Cell). get_or l (i / 16) free) (sym es) ∙ e);
+    free_tags = λ g e. elim (cases_Bool (get_or t.tags g false)) [ inl y ↦ no_yes (sym (ht g y) ∙ d.free_tags g (ap (λ (l : List Cell). get_or l g Free) (sym es) ∙ e)) | inr n ↦ n ];
+    free_bytes = λ i e. ap (λ (l : List ℕ). get_or l i 0) eb ∙ d.free_bytes i (ap (λ (l : List Cell). get_or l (i / 16) Free) (sym es) ∙ e);
     dated = d.dated;
     even = d.even;
     reg_side = λ i a e. d.reg_side i a (hr i a e);

@@ -1,6 +1,7 @@
 -- Memory returns exactly when the sweep ends.
 use Rattle.std.specs.Prelude.{◌≡◌, ℕ, ◌+◌, ◌/◌, ◌<◌, ◌≤◌, List, [], ◌∷◌, ◌++◌, Ok, Err, slice_index_or}
-use Rattle.allocator.specs.Maps.{free, run_length}
+use Rattle.allocator.specs.declared.cell.Cell.TheVariants.{Free}
+use Rattle.allocator.specs.Maps.{run_length}
 use Rattle.machine.specs.Calls.{Call}
 use Rattle.machine.specs.Model.{Fixed, State}
 use Rattle.quarantine.specs.declared.run.Run.{Run}
@@ -12,7 +13,7 @@ InRun r g = (r.start ≤ g) × (g < r.start + r.length)
 
 -- granule g is free
 abbrev pub IsFree : State → ℕ → Type 0
-IsFree s g = slice_index_or s.cells g free ≡ free
+IsFree s g = slice_index_or s.cells g Free ≡ Free
 
 -- none of a run's granules is free
 abbrev pub NoneFree : State → Run → Type 0

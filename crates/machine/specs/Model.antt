@@ -1,6 +1,8 @@
 -- The model of a machine: what changes with calls, and what is fixed from construction on.
 use Rattle.std.specs.Prelude.{ℕ, ◌+◌, ◌*◌, ◌/◌, Bool, true, false, List, [], ◌∷◌, ◌++◌, length, get_or, replicate, Some, None, Ok, Err, Option, Result, slice_index_or, slice_set}
-use Rattle.allocator.specs.Maps.{Cell, Rule, Lawful, free}
+use Rattle.allocator.specs.declared.cell.Cell.{Cell}
+use Rattle.allocator.specs.declared.cell.Cell.TheVariants.{Free}
+use Rattle.allocator.specs.Maps.{Rule, Lawful}
 use Rattle.authority.specs.declared.capability.Capability.{Capability}
 use Rattle.memory.specs.Memories.{with_image}
 use Rattle.machine.specs.Runs.{emptied_registers, released_cells, swept_tags, wiped_bytes, wiped_tags}
@@ -51,7 +53,7 @@ fresh_state K = record {
   registers = empty_registers;
   bytes = replicate (16 * K.memory_granules) 0;
   tags = replicate K.memory_granules false;
-  cells = replicate K.allocator_granules free;
+  cells = replicate K.allocator_granules Free;
   mark = 0;
   waiting = [];
   painted = [];

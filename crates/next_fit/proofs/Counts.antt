@@ -1,145 +1,119 @@
--- The map of two buffers whose sizes fit: its length, its taken granules, and its changes.
-use Rattle.std.proofs.Common.{◌≡◌, ℕ, suc, ◌+◌, ◌*◌, ◌/◌, ◌%◌, ◌^◌, ◌<◌, ◌≤◌, Bool, true, false, cond, ◌&&◌, eqb, leb, List, [], ◌∷◌, map, length, get_or, drop, set, replicate, IfSome, Some, None, Ok, Option, sym, refl, ap, ◌∙◌, arith}
+-- The map of two buffers: its length, its granules, those that are taken, and its changes.
+use Rattle.std.proofs.Common.{zero, count_by, ◌≡◌, ℕ, suc, ◌+◌, ◌*◌, ◌<◌, ◌≤◌, Bool, true, false, cond, List, map, length, get_or, drop, set, replicate, Some, Ok, sym, ◌∙◌, arith}
 use lib.Seq.{paste}
 use native.Mathlib.Nat.{zero-div}
 use Rattle.std.proofs.lemmas.List.FromFn.{get_or-map-range_with_len}
-use Rattle.std.proofs.lemmas.List.{at_drop_more, at_drop_all, nil_from_length, ext_get_or, length-replicate, get_or-replicate}
-use Rattle.std.proofs.lemmas.Bool.{eqb-true, leb-true, and_parts, cond-true, cond-false, ne_eqb, le-ltb, lt-ltb}
-use Rattle.allocator.specs.Allocators.{allocating, releasing}
-use Rattle.allocator.specs.Maps.{Cell, free, first, rest, taken_in, run_length, run_of, Rule}
-use Rattle.bits.specs.Bits.{bit_at, bits_of, filled, length_bits}
-use Rattle.next_fit.specs.Bitmaps.{GranulesOf, cell_of, cells_of, count_set, fresh_map, map_of, sizes_fit, zeroed_if}
-use Rattle.next_fit.specs.Laws.{next_fit_lawful}
+use Rattle.std.proofs.lemmas.List.{get_or-map, length-map, get_or_past, get_or_default, at_drop_more, at_drop_all, ext_get_or, length-replicate, get_or-replicate}
+use Rattle.std.proofs.lemmas.List.Sums.{sum_by-cons}
+use Rattle.std.specs.List.{range_with_len}
+use Rattle.allocator.specs.Allocators.{admitting, allocating, releasing}
+use Rattle.allocator.specs.declared.cell.Cell.{Cell}
+use Rattle.allocator.specs.declared.cell.Cell.TheVariants.{Free, First, Rest}
+use Rattle.allocator.specs.Maps.{is_free, taken_in, run_length, run_of}
+use Rattle.bits.specs.Bits.{bits_of, filled, length_bits}
+use Rattle.next_fit.specs.Bitmaps.{cell_of, cells_of, granules_of, map_of}
 use Rattle.next_fit.specs.Placement.{is_used, next_fit}
 use Rattle.next_fit.proofs.Cells.{cell_at, cell_free, cells_freed, cells_run, filled_run, length_cells, used_cells}
 
-pub record Fit (nu nf : ℕ) : Type 0 where
-  pub same : nu ≡ nf
-  pub small : nu ≤ 128
+-- the number of granules is the length of the map
+pub counted : (us fs : List ℕ) (r : ℕ) → r ≡ granules_of (length us) (length fs) → r ≡ length (map_of us fs)
+counted us fs r e = grind (arith, length_cells, length_bits)
 
-pub fit_from : (nu nf : ℕ) → sizes_fit nu nf ≡ true → Fit nu nf
-fit_from nu nf e =
-    let a = and_parts (eqb nu nf) (eqb (nu % 2) 0 && (leb 2 nu && leb nu 128)) e in
-    let b = and_parts (eqb (nu % 2) 0) (leb 2 nu && leb nu 128) a.1 in
-    let d = and_parts (leb 2 nu) (leb nu 128) b.1 in
-    record { same = eqb-true nu nf a.0; small = leb-true nu 128 d.1 }
+-- a granule of the map, by its two bits; past the last it is free
+pub cell_past : (us fs : List ℕ) (r g : ℕ) → r ≡ granules_of (length us) (length fs) → r ≤ g → get_or (map_of us fs) g Free ≡ Free
+cell_past us fs r g e h = grind (arith, counted, get_or_past)
 
-pub map_open : (us fs : List ℕ) → sizes_fit (length us) (length fs) ≡ true → map_of us fs ≡ cells_of (bits_of us) (bits_of fs)
-map_open us fs e = cond-true (sizes_fit (length us) (length fs)) (cells_of (bits_of us) (bits_of fs)) [] e
+pub cell_there : (us fs : List ℕ) (r g : ℕ) → r ≡ granules_of (length us) (length fs) → g < r → get_or (map_of us fs) g Free ≡ cell_of (get_or (bits_of us) g false) (get_or (bits_of fs) g false)
+cell_there us fs r g e h = grind (arith, cell_at)
 
-pub granules_open : (us fs : List ℕ) → sizes_fit (length us) (length fs) ≡ true → GranulesOf us fs (8 * length us)
-granules_open us fs e =
-    let f = fit_from (length us) (length fs) e in
-    let s = f.same in
-    let m = f.small in
-    record {
-      count = rw (map_open us fs e) (sym (length_cells (bits_of us) (bits_of fs) ∙ length_bits us));
-      small = omega arith;
-      opens = λ _. map_open us fs e;
-      fits = λ _. e;
-      used = λ _. refl;
-      firsts = λ _. omega arith;
-    }
+-- whether a granule is taken, by its bit; past the last it is
+pub taken_past : (us fs : List ℕ) (r g : ℕ) → r ≡ granules_of (length us) (length fs) → r ≤ g → get_or (map is_used (map_of us fs)) g true ≡ true
+taken_past us fs r g e h = grind (arith, counted, length-map, get_or_past)
 
-taken_used : (cs : List Cell) → taken_in cs ≡ count_set (map is_used cs)
-unfolding taken_in
-taken_used [] = refl
-taken_used (free ∷ cs) = taken_used cs
-taken_used (first ∷ cs) = ap suc (taken_used cs)
-taken_used (rest ∷ cs) = ap suc (taken_used cs)
+pub taken_there : (us fs : List ℕ) (r g : ℕ) → r ≡ granules_of (length us) (length fs) → g < r → get_or (map is_used (map_of us fs)) g true ≡ get_or (bits_of us) g false
+taken_there us fs r g e h = grind (arith, used_cells, get_or_default, length_bits)
 
--- the taken granules are those whose used bit is set
-pub taken_cells : (us fs : List Bool) → taken_in (cells_of us fs) ≡ count_set us
-taken_cells us fs = taken_used (cells_of us fs) ∙ ap count_set (used_cells us fs)
+-- and of the list that says which are taken
+pub length_used : (us fs : List ℕ) (r : ℕ) → r ≡ granules_of (length us) (length fs) → length (map is_used (map_of us fs)) ≡ r
+length_used us fs r e = grind (arith, counted, length-map)
 
-pub count_more : (us : List Bool) (i : ℕ) → i < length us → count_set (drop i us) ≡ cond (get_or us i false) 1 0 + count_set (drop (i + 1) us)
-count_more us i h = at_drop_more count_set us i false h ∙ one_more (get_or us i false) (count_set (drop (i + 1) us))
-  where
-    one_more : (u : Bool) (n : ℕ) → cond u (suc n) n ≡ cond u 1 0 + n
-    one_more true n = omega arith
-    one_more false n = omega arith
-
-pub count_all : (us : List Bool) (i : ℕ) → length us ≤ i → count_set (drop i us) ≡ 0
-count_all us i h = at_drop_all count_set us i h
-
--- no granules: none is taken
-pub none_taken : (cs : List Cell) → length cs ≡ 0 → 0 ≡ taken_in cs
-unfolding taken_in
-none_taken cs e = let z = nil_from_length cs e in sym (ap taken_in z)
-
--- an allocation that is accepted
-pub allocating_placed :
-    (place : Rule) (cs : List Cell) (m most n : ℕ) (x : ℕ × ℕ) → 0 < n → taken_in cs + n ≤ most → Some x ≡ place cs m n →
-    allocating place cs m most n ≡ record { answer = Ok x.0; cells = paste cs x.0 (run_of n) n; mark = x.1 }
-allocating_placed place cs m most n x z l e = rw (ne_eqb n 0 (λ q. omega arith), le-ltb most (taken_in cs + n) l, sym e)
+-- buffers of the same sizes have as many granules
+pub length_same : (us fs vs gs : List ℕ) → length vs ≡ length us → length gs ≡ length fs → length (map_of vs gs) ≡ length (map_of us fs)
+length_same us fs vs gs p q = grind (arith, length_cells, length_bits)
 
 -- the map after the writes of an allocation
-pub map_allocated :
-    (us fs us' fs' : List ℕ) (b n : ℕ) → sizes_fit (length us) (length fs) ≡ true → length us' ≡ length us → length fs' ≡ length fs →
-    0 < n → b + n ≤ 8 * length us → b + n ≤ 8 * length fs →
+map_allocated :
+    (us fs us' fs' : List ℕ) (b n : ℕ) → 0 < n → b + n ≤ length (map_of us fs) → length us' ≡ length us → length fs' ≡ length fs →
     bits_of us' ≡ filled (bits_of us) b (b + n) true → bits_of fs' ≡ set (filled (bits_of fs) b (b + n) false) b true →
     map_of us' fs' ≡ paste (map_of us fs) b (run_of n) n
-map_allocated us fs us' fs' b n e lu lf z hu hf pu pf =
-    let nu = length_bits us in
-    let nf = length_bits fs in
-    let qu = pu ∙ filled_run (bits_of us) b n true (omega arith) in
-    let qf = pf ∙ ap (λ xs. set xs b true) (filled_run (bits_of fs) b n false (omega arith)) in
-    map_open us' fs' (rw (lu, lf) e)
-    ∙ (rw (qu, qf) (cells_run (bits_of us) (bits_of fs) b n z (omega arith) (omega arith))
-    ∙ ap (λ cs. paste cs b (run_of n) n) (sym (map_open us fs e)))
+map_allocated us fs us' fs' b n z w lu lf pu pf = grind (arith, length_bits, length_cells, filled_run, cells_run)
+
+-- an allocation that was admitted, with the place that the rule answered
+pub allocated :
+    (us fs us' fs' : List ℕ) (m n b next : ℕ) (u : Unit {0}) → Ok u ≡ admitting (map_of us fs) (length (map_of us fs)) n →
+    Some (b, next) ≡ next_fit (map_of us fs) m n → b + n ≤ length (map_of us fs) → length us' ≡ length us → length fs' ≡ length fs →
+    bits_of us' ≡ filled (bits_of us) b (b + n) true → bits_of fs' ≡ set (filled (bits_of fs) b (b + n) false) b true →
+    map_of us' fs' ≡ (allocating next_fit (map_of us fs) m (length (map_of us fs)) n).cells
+allocated us fs us' fs' m n b next u e f w lu lf pu pf =
+    let z : 0 < n = grind arith in
+    let r : taken_in (map_of us fs) + n ≤ length (map_of us fs) = grind arith in
+    let k = map_allocated us fs us' fs' b n z w lu lf pu pf in
+    grind arith
 
 -- the map after the write of a release
 pub map_released :
-    (us fs us' : List ℕ) (b n : ℕ) → sizes_fit (length us) (length fs) ≡ true → length us' ≡ length us → b + n ≤ 8 * length us →
-    bits_of us' ≡ filled (bits_of us) b (b + n) false → map_of us' fs ≡ paste (map_of us fs) b (replicate n free) n
-map_released us fs us' b n e lu h p =
-    let nu = length_bits us in
-    let q = p ∙ filled_run (bits_of us) b n false (omega arith) in
-    map_open us' fs (rw lu e)
-    ∙ (rw q (cells_freed (bits_of us) (bits_of fs) b n (omega arith)) ∙ ap (λ cs. paste cs b (replicate n free) n) (sym (map_open us fs e)))
+    (us fs us' : List ℕ) (b n : ℕ) → 0 < n → b + n ≤ length (map_of us fs) → length us' ≡ length us →
+    bits_of us' ≡ filled (bits_of us) b (b + n) false → map_of us' fs ≡ paste (map_of us fs) b (replicate n Free) n
+map_released us fs us' b n z w lu p = grind (arith, length_bits, length_cells, filled_run, cells_freed)
 
+-- a release of a run
 pub releasing_whole :
     (cs : List Cell) (m b n : ℕ) → 0 < n → n ≡ run_length cs b →
-    releasing cs m b ≡ record { answer = Ok n; cells = paste cs b (replicate n free) n; mark = m }
-releasing_whole cs m b n z e = rw (sym e, lt-ltb 0 n z)
-
--- what the rule answers lies inside
-pub place_inside : (cs : List Cell) (m n : ℕ) (r : Option (ℕ × ℕ)) → 0 < n → r ≡ next_fit cs m n → IfSome r (λ x. x.0 + n ≤ length cs)
-place_inside cs m n None z e = tt
-place_inside cs m n (Some x) z e = (next_fit_lawful.answered cs m n x.0 x.1 z (sym e)).0
+    releasing cs m b ≡ record { answer = Ok n; cells = paste cs b (replicate n Free) n; mark = m }
+releasing_whole cs m b n z e = grind arith
 
 -- the bits of zeroed bytes
 zero_bits : (n i : ℕ) → i < 8 * n → get_or (bits_of (replicate n 0)) i false ≡ false
 unfolding bits_of
-zero_bits n i h =
-    let bs : List ℕ = replicate n 0 in
-    let l : length bs ≡ n = length-replicate {A = ℕ} n 0 in
-    get_or-map-range_with_len (bit_at bs) 0 (8 * length bs) i i false (omega arith) (omega arith)
-    ∙ (ap (λ x. eqb (x / 2 ^ (i % 8) % 2) 1) (get_or-replicate {A = ℕ} n (i / 8) 0 0 (omega arith)) ∙ zero_bit (i % 8))
-  where
-    zero_bit : (k : ℕ) → eqb (0 / 2 ^ k % 2) 1 ≡ false
-    zero_bit k = rw zero-div
+zero_bits n i h = grind (arith, length-replicate, get_or-map-range_with_len, get_or-replicate, zero-div)
 
 -- two zeroed buffers: all granules are free
-pub cells_fresh : (n m : ℕ) → cells_of (bits_of (replicate n 0)) (bits_of (replicate m 0)) ≡ replicate (8 * n) free
+pub cells_fresh : (n m : ℕ) → cells_of (bits_of (replicate n 0)) (bits_of (replicate m 0)) ≡ replicate (8 * n) Free
 cells_fresh n m =
-    let us = bits_of (replicate n 0) in
-    let fs = bits_of (replicate m 0) in
-    let l : length us ≡ 8 * n = length_bits (replicate n 0) ∙ ap (λ k. 8 * k) (length-replicate {A = ℕ} n 0) in
-    ext_get_or free (cells_of us fs) (replicate (8 * n) free) (length_cells us fs ∙ (l ∙ sym (length-replicate (8 * n) free)))
-    (λ i h.
-    let h' : i < 8 * n = omega (arith, length_cells us fs) in
-    cell_at us fs i
-    ∙ (ap (λ u. cell_of u (get_or fs i false)) (zero_bits n i h') ∙ (cell_free (get_or fs i false) ∙ sym (get_or-replicate (8 * n) i free free h'))))
+    ext_get_or Free (cells_of (bits_of (replicate n 0)) (bits_of (replicate m 0))) (replicate (8 * n) Free)
+    (grind (arith, length_cells, length_bits, length-replicate))
+    (λ i h. grind (arith, length_cells, length_bits, length-replicate, cell_at, zero_bits, cell_free, get_or-replicate))
 
--- the map of two buffers that were zeroed if their sizes fit
-pub map_fresh :
-    (us fs vs gs : List ℕ) (fit : Bool) → fit ≡ sizes_fit (length us) (length fs) → vs ≡ zeroed_if fit us →
-    gs ≡ zeroed_if fit fs → map_of vs gs ≡ fresh_map (length us) (length fs)
-map_fresh us fs vs gs true e p q =
-    let lu : length (replicate {A = ℕ} (length us) 0) ≡ length us = length-replicate (length us) 0 in
-    let lf : length (replicate {A = ℕ} (length fs) 0) ≡ length fs = length-replicate (length fs) 0 in
-    rw (p, q)
-    (map_open (replicate (length us) 0) (replicate (length fs) 0) (rw (lu, lf) (sym e))
-    ∙ (cells_fresh (length us) (length fs) ∙ sym (cond-true _ _ _ (sym e))))
-map_fresh us fs vs gs false e p q = rw (p, q) (cond-false _ _ _ (sym e) ∙ sym (cond-false _ _ _ (sym e)))
+-- the taken granules, as the places of a range at which a test says so
+taken_range :
+    (cs : List Cell) (p : ℕ → Bool) (i k : ℕ) → i + k ≡ length cs → ((g : ℕ) → g < length cs → p g ≡ is_used (get_or cs g Free)) →
+    count_by p (range_with_len i k) ≡ taken_in (drop i cs)
+unfolding taken_in
+taken_range cs p i zero e f = sym (at_drop_all taken_in cs i (omega arith))
+taken_range cs p i (suc k) e f =
+    let here = f i (omega arith) in
+    let after = taken_range cs p (i + 1) k (omega arith) f in
+    sum_by-cons (λ g. cond {A = ℕ} (p g) 1 0) i (range_with_len (i + 1) k)
+    ∙ (one_more (p i) (get_or cs i Free) _ _ here after ∙ sym (at_drop_more taken_in cs i Free (omega arith)))
+  where
+    one_more : (t : Bool) (x : Cell) (m n : ℕ) → t ≡ is_used x → m ≡ n → cond t 1 0 + m ≡ cond (is_free x) n (suc n)
+    one_more t Free m n q h = grind arith
+    one_more t First m n q h = grind arith
+    one_more t Rest m n q h = grind arith
+
+-- and so of the places whose used bit is set
+pub taken_counted :
+    (us fs : List ℕ) (r : ℕ) → r ≡ granules_of (length us) (length fs) →
+    count_by (λ g. get_or (bits_of us) g false) (range_with_len 0 r) ≡ taken_in (map_of us fs)
+taken_counted us fs r e =
+    taken_range (map_of us fs) (λ g. get_or (bits_of us) g false) 0 r (grind (arith, counted))
+    (λ g h. sym (taken_there us fs r g e (grind (arith, counted))) ∙ get_or-map is_used (map_of us fs) g Free true h)
+
+-- what the functions' goals cite
+pub ruleset fresh_steps = (cells_fresh, length-replicate)
+
+pub ruleset released_steps = (counted, map_released, releasing_whole)
+
+pub ruleset cell_steps = (cell_past, cell_there, cell_free)
+
+pub ruleset taken_steps = (taken_past, taken_there)

@@ -1,17 +1,18 @@
 -- The map of a bitmap allocator, from its two bit buffers.
-use Rattle.std.specs.Prelude.{◌≡◌, ℕ, suc, ◌*◌, ◌%◌, ◌<◌, ◌≤◌, Bool, true, false, cond, ◌&&◌, List, [], ◌∷◌, map, length, replicate, Ok, Err, Result, ◌==◌, nat_le, slice_index_or}
+use Rattle.std.specs.Prelude.{ℕ, ◌*◌, ◌%◌, Bool, true, false, cond, ◌&&◌, List, [], map, length, replicate, Ok, Err, Result, ◌==◌, nat_le, slice_index_or}
 use Rattle.std.specs.List.{range_with_len}
 use Rattle.bits.specs.Bits.{bits_of}
 use Rattle.allocator.specs.declared.fault.AllocatorFault.{AllocatorFault}
 use Rattle.allocator.specs.declared.fault.AllocatorFault.TheVariants.{Sizes}
-use Rattle.allocator.specs.Maps.{Cell, free, first, rest}
+use Rattle.allocator.specs.declared.cell.Cell.{Cell}
+use Rattle.allocator.specs.declared.cell.Cell.TheVariants.{Free, First, Rest}
 
 -- a granule by its two bits: whether it is used, and whether it is the first of a run
 abbrev pub cell_of : Bool → Bool → Cell
-cell_of true true = first
-cell_of true false = rest
-cell_of false true = free
-cell_of false false = free
+cell_of true true = First
+cell_of true false = Rest
+cell_of false true = Free
+cell_of false false = Free
 
 -- the map, granule by granule
 unfoldable pub cells_of : List Bool → List Bool → List Cell
@@ -35,18 +36,8 @@ zeroed_if fit bs = cond fit (replicate (length bs) 0) bs
 
 -- the map at construction: all granules free, and none where the sizes do not fit
 abbrev pub fresh_map : ℕ → ℕ → List Cell
-fresh_map nu nf = cond (sizes_fit nu nf) (replicate (8 * nu) free) []
+fresh_map nu nf = cond (sizes_fit nu nf) (replicate (8 * nu) Free) []
 
--- r is the number of granules of two buffers, and what follows for their lengths
-pub record GranulesOf (us fs : List ℕ) (r : ℕ) : Type 0 where
-  pub count : r ≡ length (map_of us fs)
-  pub small : r ≤ 1024
-  pub opens : 0 < r → map_of us fs ≡ cells_of (bits_of us) (bits_of fs)
-  pub fits : 0 < r → sizes_fit (length us) (length fs) ≡ true
-  pub used : 0 < r → 8 * length us ≡ r
-  pub firsts : 0 < r → 8 * length fs ≡ r
-
--- how many bits are set
-abbrev pub count_set : List Bool → ℕ
-count_set [] = 0
-count_set (u ∷ us) = cond u (suc (count_set us)) (count_set us)
+-- the number of granules of buffers of so many bytes: none where their sizes do not fit
+abbrev pub granules_of : ℕ → ℕ → ℕ
+granules_of nu nf = cond (sizes_fit nu nf) (8 * nu) 0

@@ -1,86 +1,61 @@
 -- Next fit keeps the placement law.
-use Rattle.std.specs.Prelude.{◌≡◌, ℕ, zero, suc, ◌+◌, ◌-◌, ◌<◌, ◌≤◌, Bool, true, false, not, List, map, length, Some, None, Option, ◌≢◌, slice_index_or, refl}
-use Rattle.std.proofs.Common.{sym, ◌∙◌, ap, ⊎_elim, arith}
-use Rattle.std.proofs.lemmas.Bool.{cases_eq, cases_lt, cases_Bool, and_parts, and_from, cond-true, cond-false, not-true, not_from_false, both_ways}
+use Rattle.std.specs.Prelude.{◌≡◌, ℕ, zero, suc, ◌+◌, ◌-◌, ◌<◌, ◌≤◌, Bool, true, false, List, map, length, Some, None, Option, ◌≢◌, slice_index_or, refl}
+use Rattle.std.proofs.Common.{inl, inr, sym, ◌∙◌, ap, arith}
+use Rattle.std.proofs.lemmas.Bool.{cases_eq, cases_lt, cases_Bool}
 use Rattle.std.proofs.lemmas.List.{get_or-map, length-map, get_or_past}
-use Rattle.allocator.specs.Maps.{Cell, free, first, rest, FreeAt, Lawful}
+use Rattle.allocator.specs.declared.cell.Cell.{Cell}
+use Rattle.allocator.specs.declared.cell.Cell.TheVariants.{Free, Rest}
+use Rattle.allocator.specs.Maps.{FreeAt, Lawful}
 use Rattle.next_fit.specs.Placement.{all_free, lowest_fit, base_and_mark, is_used, next_fit}
 
 -- all n are free, one by one
 all_at : (us : List Bool) (b n k : ℕ) → all_free us b n ≡ true → k < n → slice_index_or us (b + k) true ≡ false
-all_at us b zero k e h = absurd (omega arith)
+all_at us b zero k e h = grind arith
 all_at us b (suc n) k e h =
-    let p = and_parts (not (slice_index_or us (b + n) true)) (all_free us b n) e in
-    ⊎_elim
-    (λ (q : k ≡ n). rw q (not-true (slice_index_or us (b + n) true) p.0))
-    (λ (q : k ≡ n → ⊥). all_at us b n k p.1 (omega arith))
-    (cases_eq k n)
+    elim (cases_eq k n) [ inl q ↦ grind arith | inr q ↦ (all_at us b n k (grind arith) (omega arith)) ]
 
 all_from : (us : List Bool) (b n : ℕ) → ((k : ℕ) → k < n → slice_index_or us (b + k) true ≡ false) → all_free us b n ≡ true
 all_from us b zero f = refl
 all_from us b (suc n) f =
-    and_from (not (slice_index_or us (b + n) true)) (all_free us b n)
-    (not_from_false (slice_index_or us (b + n) true) (f n (omega arith)))
-    (all_from us b n (λ k h. f k (omega arith)))
+    let last = f n (omega arith) in let others = all_from us b n (λ k h. f k (omega arith)) in grind arith
 
 -- a base whose n granules are free, below the end of the candidates
 abbrev Hit : List Bool → ℕ → ℕ → ℕ → Type 0
 Hit us n top x = (all_free us x n ≡ true) × (x < top)
 
-some_is : (x y : ℕ) → Some x ≡ Some y → x ≡ y
-some_is x y e = cc
-
-some_not_none : {X : Type 0} (x : X) → Some x ≢ None
-some_not_none x e = let z : ◌≡◌ {A = ℕ} 0 1 = cc in omega arith
-
 -- what a search answers is a hit
 found_by : (us : List Bool) (n b k x : ℕ) → lowest_fit us n b k ≡ Some x → Hit us n (b + k) x
-found_by us n b zero x e = absurd (some_not_none x (sym e))
+found_by us n b zero x e = absurd cc
 found_by us n b (suc k) x e =
-    let next = lowest_fit us n (b + 1) k in
-    ⊎_elim
-    (λ (t : all_free us b n ≡ true).
-    let q : b ≡ x = some_is b x (sym (cond-true (all_free us b n) (Some b) next t) ∙ e) in (rw (sym q) t, omega arith))
-    (λ (t : all_free us b n ≡ false).
-    let r = found_by us n (b + 1) k x (sym (cond-false (all_free us b n) (Some b) next t) ∙ e) in (r.0, omega (arith, r.1)))
-    (cases_Bool (all_free us b n))
+    elim (cases_Bool (all_free us b n)) [
+      | inl t ↦ (grind arith, grind arith)
+      | inr t ↦ (let r = found_by us n (b + 1) k x (grind arith) in (r.0, omega (arith, r.1)))
+    ]
 
 -- where a search answers nothing there is no hit
 none_by : (us : List Bool) (n b k x : ℕ) → lowest_fit us n b k ≡ None → b ≤ x → x < b + k → all_free us x n ≢ true
 none_by us n b zero x e l h t = omega arith
 none_by us n b (suc k) x e l h t =
-    let next = lowest_fit us n (b + 1) k in
-    ⊎_elim
-    (λ (a : all_free us b n ≡ true). some_not_none b (sym (cond-true (all_free us b n) (Some b) next a) ∙ e))
-    (λ (a : all_free us b n ≡ false).
-    ⊎_elim
-    (λ (q : x ≡ b). both_ways (all_free us b n) a (rw (sym q) t))
-    (λ (q : x ≡ b → ⊥). none_by us n (b + 1) k x (sym (cond-false (all_free us b n) (Some b) next a) ∙ e) (omega arith) (omega arith) t)
-    (cases_eq x b))
-    (cases_Bool (all_free us b n))
+    elim (cases_eq x b) [
+      | inl q ↦ grind arith
+      | inr q ↦ (none_by us n (b + 1) k x (grind arith) (omega arith) (omega arith) t)
+    ]
 
-used_not : (c : Cell) → is_used c ≡ false → c ≡ free
-used_not free e = refl
-used_not first e = absurd (both_ways true e refl)
-used_not rest e = absurd (both_ways true e refl)
+used_not : (c : Cell) → is_used c ≡ false → c ≡ Free
+used_not c e = grind arith
 
 -- past the end a granule counts as used
-used_at : (cs : List Cell) (i : ℕ) → slice_index_or (map is_used cs) i true ≡ is_used (slice_index_or cs i rest)
-used_at cs i =
-    ⊎_elim
-    (λ (h : i < length cs). get_or-map is_used cs i rest true h)
-    (λ (h : length cs ≤ i). get_or_past (map is_used cs) i true (omega (arith, length-map cs is_used)) ∙ sym (ap is_used (get_or_past cs i rest h)))
-    (cases_lt i (length cs))
+used_at : (cs : List Cell) (i : ℕ) → slice_index_or (map is_used cs) i true ≡ is_used (slice_index_or cs i Rest)
+used_at cs i = elim (cases_lt i (length cs)) [
+  | inl h ↦ get_or-map is_used cs i Rest true h
+  | inr h ↦ grind (arith, get_or_past, length-map)
+]
 
 in_map : (cs : List Cell) (i : ℕ) → slice_index_or (map is_used cs) i true ≡ false → i < length cs
-in_map cs i e =
-    ⊎_elim
-    (λ (h : i < length cs). h)
-    (λ (h : length cs ≤ i). absurd (both_ways true (sym (get_or_past (map is_used cs) i true (omega (arith, length-map cs is_used))) ∙ e) refl))
-    (cases_lt i (length cs))
+in_map cs i e = grind (arith, get_or_past, length-map)
 
 hit_free : (cs : List Cell) (n x : ℕ) → Hit (map is_used cs) n (length (map is_used cs)) x → FreeAt cs x n
-hit_free cs n x h = (ends n h.0, λ k l. used_not (slice_index_or cs (x + k) rest) (sym (used_at cs (x + k)) ∙ all_at (map is_used cs) x n k h.0 l))
+hit_free cs n x h = (ends n h.0, λ k l. used_not (slice_index_or cs (x + k) Rest) (sym (used_at cs (x + k)) ∙ all_at (map is_used cs) x n k h.0 l))
   where
     ends : (m : ℕ) → all_free (map is_used cs) x m ≡ true → x + m ≤ length cs
     ends zero e = omega (arith, h.1, length-map cs is_used)
@@ -95,26 +70,23 @@ either_hit :
     ((x : ℕ) → p ≡ Some x → Hit us n top x) → ((x : ℕ) → q ≡ Some x → Hit us n top x) →
     base_and_mark n p (base_and_mark n q None) ≡ Some (b, next) → Hit us n top b
 either_hit us n top b next (Some x) q f g e =
-    let v : ◌≡◌ {A = ℕ × ℕ} (x, x + n) (b, next) = cc in
-    let w : x ≡ b = ap (λ (t : ℕ × ℕ). t.0) v in rw (sym w) (f x refl)
+    let v : ◌≡◌ {A = ℕ × ℕ} (x, x + n) (b, next) = cc in rw (sym (ap (λ (t : ℕ × ℕ). t.0) v)) (f x refl)
 either_hit us n top b next None (Some x) f g e =
-    let v : ◌≡◌ {A = ℕ × ℕ} (x, x + n) (b, next) = cc in
-    let w : x ≡ b = ap (λ (t : ℕ × ℕ). t.0) v in rw (sym w) (g x refl)
-either_hit us n top b next None None f g e = absurd (some_not_none (b, next) (sym e))
+    let v : ◌≡◌ {A = ℕ × ℕ} (x, x + n) (b, next) = cc in rw (sym (ap (λ (t : ℕ × ℕ). t.0) v)) (g x refl)
+either_hit us n top b next None None f g e = absurd cc
 
 neither : (n : ℕ) (p q : Option ℕ) → base_and_mark n p (base_and_mark n q None) ≡ None → q ≡ None
-neither n (Some x) q e = absurd (some_not_none (x, x + n) e)
-neither n None (Some x) e = absurd (some_not_none (x, x + n) e)
+neither n (Some x) q e = absurd cc
+neither n None (Some x) e = absurd cc
 neither n None None e = refl
 
 from_mark : (us : List Bool) (n m x : ℕ) → lowest_fit us n m (length us - m) ≡ Some x → Hit us n (length us) x
 from_mark us n m x e =
-    ⊎_elim
-    (λ (h : m < length us). let r = found_by us n m (length us - m) x e in (r.0, omega (arith, r.1)))
-    (λ (h : length us ≤ m).
-    let o : length us - m ≡ 0 = omega arith in
-    let w : ◌≡◌ {A = Option ℕ} None (Some x) = simp o at e in absurd (some_not_none x (sym w)))
-    (cases_lt m (length us))
+    let r = found_by us n m (length us - m) x e in
+    elim (cases_lt m (length us)) [
+      | inl h ↦ (r.0, omega (arith, r.1))
+      | inr h ↦ (let o : length us - m ≡ 0 = omega arith in let w : ◌≡◌ {A = Option ℕ} None (Some x) = simp o at e in absurd cc)
+    ]
 
 from_zero : (us : List Bool) (n x : ℕ) → lowest_fit us n 0 (length us) ≡ Some x → Hit us n (length us) x
 from_zero us n x e = let r = found_by us n 0 (length us) x e in (r.0, omega (arith, r.1))

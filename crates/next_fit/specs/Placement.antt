@@ -1,6 +1,7 @@
 -- Next fit, over the list that says of each granule whether it is taken; past the end counts as taken.
 use Rattle.std.specs.Prelude.{ℕ, zero, suc, ◌+◌, ◌-◌, Bool, true, cond, not, ◌&&◌, List, map, length, Some, None, Option, slice_index_or}
-use Rattle.allocator.specs.Maps.{Cell, is_free, Rule}
+use Rattle.allocator.specs.declared.cell.Cell.{Cell}
+use Rattle.allocator.specs.Maps.{is_free, Rule}
 
 -- whether the n granules from b on are free
 abbrev pub all_free : List Bool → ℕ → ℕ → Bool

@@ -1,46 +1,48 @@
 // The bitmap allocator: next fit over two lent bit buffers.
 #![tactic(auto)]
 
-ghost use Rattle.std.specs.Prelude.{◌≡◌, ◌+◌, ◌*◌, ◌<◌, ◌≤◌, true, length, IfSome};
-ghost use Rattle.allocator.specs.Maps.{run_length};
-ghost use Rattle.next_fit.specs.Bitmaps.{GranulesOf, fresh_map, map_of, sizes_answer, sizes_fit, zeroed_if};
+ghost use Rattle.std.specs.Prelude.{◌≡◌, length};
+ghost use Rattle.next_fit.specs.Bitmaps.{fresh_map, granules_of, map_of, sizes_answer, sizes_fit, zeroed_if};
 ghost use Rattle.next_fit.specs.Laws.{next_fit_lawful};
 ghost use Rattle.next_fit.specs.Placement.{next_fit};
 
-use crate::runs::{begin_run, count_taken, free_run, run_length};
-use crate::search::find_place;
-use crate::sizes::{exceeds, fits, reset};
+use crate::runs::{begin_run, count_taken};
 use allocator::allocator::Allocator;
 use allocator::fault::AllocatorFault;
 use bits::fill;
 
 mod runs;
 mod search;
-mod sizes;
 #[cfg(test)]
 mod tests;
 
 // Bit g of `used` says that granule g is not free, and bit g of `firsts` that it is the first of a run, where it is used.
+// Kept as it is: the bits lie in two lent buffers, since the project takes no memory from a heap.
 #[derive(Drop)]
 pub struct NextFit<'a> {
     used: &'a mut [u8],
     firsts: &'a mut [u8],
+    // The number of granules; none where the sizes of the buffers do not fit.
+    granules: usize,
     mark: usize,
+    ghost sized: { granules ≡ granules_of (length used.now) (length firsts.now) },
 }
 
 impl<'a> NextFit<'a> {
-    // The number of granules that the two buffers are for.
+    // The number of granules that the two buffers are for: both alike, and for a multiple of 16 granules from 16 to 1,024.
     pub fn check_sizes(used: &[u8], firsts: &[u8]) -> Result<usize, AllocatorFault>
         ensures { result ≡ sizes_answer (length used.now) (length firsts.now) }
     {
-        if fits(used.len(), firsts.len()) {
-            Ok(8 * used.len())
+        let bytes = used.len();
+        if bytes == firsts.len() && bytes % 2 == 0 && bytes >= 2 && bytes <= 128 {
+            Ok(8 * bytes)
         } else {
             Err(AllocatorFault::Sizes)
         }
     }
 
     // All granules free and the mark at 0; where the sizes do not fit, no granules, and the buffers as they were.
+    #[tactic(auto, using(crate::proofs::Counts::fresh_steps))]
     pub fn new(used: &'a mut [u8], firsts: &'a mut [u8]) -> NextFit<'a>
         ensures used { result.used.now ≡ zeroed_if (sizes_fit (length used.old) (length firsts.old)) used.old }
         ensures firsts { result.firsts.now ≡ zeroed_if (sizes_fit (length used.old) (length firsts.old)) firsts.old }
@@ -49,51 +51,20 @@ impl<'a> NextFit<'a> {
         ensures map { map_of result.used.now result.firsts.now ≡ fresh_map (length used.old) (length firsts.old) }
         ensures mark { result.mark ≡ 0 }
     {
-        let fit = fits(used.len(), firsts.len());
-        reset(&mut *used, fit);
-        reset(&mut *firsts, fit);
+        let granules = match NextFit::check_sizes(&*used, &*firsts) {
+            Ok(n) => {
+                used.fill(0);
+                firsts.fill(0);
+                n
+            }
+            Err(_) => 0,
+        };
         NextFit {
             used,
             firsts,
+            granules,
             mark: 0,
         }
-    }
-
-    // The number of granules.
-    fn count(&self) -> usize
-        ensures { GranulesOf self.now.used.now self.now.firsts.now result }
-    {
-        let bytes = self.used.len();
-        if fits(bytes, self.firsts.len()) {
-            8 * bytes
-        } else {
-            0
-        }
-    }
-
-    // The length of the run that begins at granule b, or 0.
-    fn run_at(&self, b: usize) -> usize
-        ensures fits { 0 < result → sizes_fit (length self.now.used.now) (length self.now.firsts.now) ≡ true }
-        ensures within { 0 < result → b + result ≤ 8 * length self.now.used.now }
-        ensures value { result ≡ run_length (map_of self.now.used.now self.now.firsts.now) b }
-    {
-        if b >= self.count() {
-            return 0;
-        }
-        run_length(&*self.used, &*self.firsts, b)
-    }
-
-    // What the placement rule answers.
-    fn find(&self, n: usize) -> Option<(usize, usize)>
-        requires { (0 < n) × (n ≤ length (map_of self.now.used.now self.now.firsts.now)) }
-        ensures within { IfSome result (λ x. x.0 + n ≤ length (map_of self.now.used.now self.now.firsts.now)) }
-        ensures value { result ≡ next_fit (map_of self.now.used.now self.now.firsts.now) self.now.mark n }
-    {
-        if self.count() == 0 {
-            return None;
-        }
-        let mark = self.mark;
-        find_place(&*self.used, mark, n)
     }
 }
 
@@ -108,15 +79,14 @@ impl<'a> Allocator for NextFit<'a> {
 
     ghost lawful = { next_fit_lawful };
 
+    #[tactic(auto, using(crate::proofs::Counts::counted))]
     fn granules(&self) -> usize {
-        self.count()
+        self.granules
     }
 
+    #[tactic(auto, using(crate::proofs::Counts::taken_counted))]
     fn taken(&self) -> usize {
-        if self.count() == 0 {
-            return 0;
-        }
-        count_taken(&*self.used)
+        count_taken(&*self.used, self.granules)
     }
 
     fn allowance(&self) -> usize {
@@ -127,30 +97,26 @@ impl<'a> Allocator for NextFit<'a> {
         self.run_at(b)
     }
 
+    #[tactic(auto, using(crate::proofs::Counts::length_same))]
     fn allocate(&mut self, n: usize) -> Result<usize, AllocatorFault> {
-        if n == 0 {
-            return Err(AllocatorFault::BadNum);
-        }
-        let all = self.count();
-        let taken = self.taken();
-        if exceeds(taken, n, all) {
-            return Err(AllocatorFault::Allowance);
-        }
+        self.admit(n)?;
         let Some((b, mark)) = self.find(n) else {
             return Err(AllocatorFault::NoRun);
         };
-        fill(&mut *self.used, b, b + n, true);
-        begin_run(&mut *self.firsts, b, b + n);
+        let end = b + n;
+        fill(&mut *self.used, b, end, true);
+        begin_run(&mut *self.firsts, b, end);
         self.mark = mark;
         Ok(b)
     }
 
+    #[tactic(auto, using(crate::proofs::Counts::length_same, crate::proofs::Counts::released_steps))]
     fn release(&mut self, b: usize) -> Result<usize, AllocatorFault> {
         let n = self.run_at(b);
         if n == 0 {
             return Err(AllocatorFault::NotWhole);
         }
-        free_run(&mut *self.used, b, n);
+        fill(&mut *self.used, b, b + n, false);
         Ok(n)
     }
 }

@@ -1,82 +1,59 @@
-// Runs in the two bit buffers.
-ghost use Rattle.std.specs.Prelude.{◌≡◌, ◌+◌, ◌*◌, ◌^◌, ◌<◌, ◌≤◌, true, false, length, if◌then◌else◌, slice_index_or, slice_set};
-ghost use Rattle.allocator.specs.Maps.{free, is_first, is_rest, run_length};
+// Runs of granules.
+ghost use Rattle.std.specs.Prelude.{◌≡◌, ◌+◌, ◌-◌, ◌<◌, ◌≤◌, true, false, count_by, slice_index_or, slice_set};
+ghost use Rattle.allocator.specs.declared.cell.Cell.TheVariants.{Free};
+ghost use Rattle.std.specs.List.{prefix_len, range_with_len};
+ghost use Rattle.allocator.specs.Maps.{is_rest, run_length};
 ghost use Rattle.bits.specs.Bits.{bits_of, filled};
-ghost use Rattle.next_fit.specs.Bitmaps.{cell_of, cells_of, count_set};
+ghost use Rattle.next_fit.specs.Bitmaps.{map_of};
 
+use crate::NextFit;
+use allocator::cell::Cell;
 use bits::{fill, get, put};
 
-// Whether a granule with these bits is the first of a run.
-fn first_bits(used: bool, first_bit: bool) -> bool
-    ensures { result ≡ is_first (cell_of used first_bit) }
-{
-    match (used, first_bit) {
-        (true, true) => true,
-        (true, false) => false,
-        (false, _) => false,
-    }
-}
-
-// Whether a granule with these bits is one of the rest of a run.
-fn rest_bits(used: bool, first_bit: bool) -> bool
-    ensures { result ≡ is_rest (cell_of used first_bit) }
-{
-    match (used, first_bit) {
-        (true, true) => false,
-        (true, false) => true,
-        (false, _) => false,
-    }
-}
-
-fn is_first(used: &[u8], firsts: &[u8], g: usize) -> bool
-    ensures { result ≡ is_first (slice_index_or (cells_of (bits_of used.now) (bits_of firsts.now)) g free) }
-{
-    first_bits(get(used, g), get(firsts, g))
-}
-
-fn is_rest(used: &[u8], firsts: &[u8], g: usize) -> bool
-    ensures { result ≡ is_rest (slice_index_or (cells_of (bits_of used.now) (bits_of firsts.now)) g free) }
-{
-    rest_bits(get(used, g), get(firsts, g))
-}
-
-// The length of the run that begins at granule b, or 0.
-pub(crate) fn run_length(used: &[u8], firsts: &[u8], b: usize) -> usize
-    requires few { length used.now ≤ 128 }
-    requires inside { b < 8 * length used.now }
-    ensures within { b + result ≤ 8 * length used.now }
-    ensures value { result ≡ run_length (cells_of (bits_of used.now) (bits_of firsts.now)) b }
-{
-    if !is_first(used, firsts, b) {
-        return 0;
-    }
-    let mut n = 1;
-    for g in b + 1..8 * used.len() {
-        if !is_rest(used, firsts, g) {
-            return n;
+impl<'a> NextFit<'a> {
+    // What granule g is; past the last it counts as free.
+    #[tactic(auto, using(crate::proofs::Counts::cell_steps))]
+    fn cell(&self, g: usize) -> Cell
+        ensures { result ≡ slice_index_or (map_of self.now.used.now self.now.firsts.now) g Free }
+    {
+        if g >= self.granules {
+            return Cell::Free;
         }
-        n += 1;
+        match (get(&*self.used, g), get(&*self.firsts, g)) {
+            (false, _) => Cell::Free,
+            (true, true) => Cell::First,
+            (true, false) => Cell::Rest,
+        }
     }
-    n
+
+    // How many granules from `from` on are the rest of a run, up to the first that is not.
+    #[tactic(auto, using(crate::proofs::Lengths::rest_same))]
+    fn rests_from(&self, from: usize) -> usize
+        ensures { result ≡ prefix_len (λ g. is_rest (slice_index_or (map_of self.now.used.now self.now.firsts.now) g Free)) (range_with_len from (self.now.granules - from)) }
+    {
+        (from..self.granules)
+            .take_while(|&g| self.cell(g) == Cell::Rest)
+            .count()
+    }
+
+    // The length of the run that begins at granule b, or 0.
+    #[tactic(auto, using(crate::proofs::Counts::counted, crate::proofs::Lengths::run_steps))]
+    pub(crate) fn run_at(&self, b: usize) -> usize
+        ensures within { 0 < result → b + result ≤ self.now.granules }
+        ensures value { result ≡ run_length (map_of self.now.used.now self.now.firsts.now) b }
+    {
+        if self.cell(b) != Cell::First {
+            return 0;
+        }
+        1 + self.rests_from(b + 1)
+    }
 }
 
-// What one granule adds to the number of taken granules.
-fn one_if(taken: bool) -> usize
-    ensures { result ≡ (if taken then 1 else 0) }
+// How many of the first n granules are used.
+pub(crate) fn count_taken(used: &[u8], n: usize) -> usize
+    ensures { result ≡ count_by (λ g. slice_index_or (bits_of used.now) g false) (range_with_len 0 n) }
 {
-    if taken { 1 } else { 0 }
-}
-
-// The number of granules that are used.
-pub(crate) fn count_taken(used: &[u8]) -> usize
-    requires { length used.now ≤ 128 }
-    ensures { result ≡ count_set (bits_of used.now) }
-{
-    let mut n = 0;
-    for g in 0..8 * used.len() {
-        n += one_if(get(used, g));
-    }
-    n
+    (0..n).filter(|&g| get(used, g)).count()
 }
 
 // Among the granules from b up to `end` only b is a first.
@@ -85,13 +62,4 @@ pub(crate) fn begin_run(firsts: &mut [u8], b: usize, end: usize)
 {
     fill(firsts, b, end, false);
     put(firsts, b, true);
-}
-
-// The n granules from b on are not used.
-pub(crate) fn free_run(used: &mut [u8], b: usize, n: usize)
-    requires some { 0 < n }
-    requires small { b + n < 2 ^ 64 }
-    ensures { bits_of used.new ≡ filled (bits_of used.old) b (b + n) false }
-{
-    fill(used, b, b + n, false);
 }

@@ -2,7 +2,7 @@
 use Rattle.std.specs.Prelude.{ℕ, zero, suc, ◌+◌, ◌*◌, ◌/◌, Bool, false, cond, ◌&&◌, List, [], ◌∷◌, length, replicate, is_ok, slice_index_or, slice_set}
 use Rattle.std.proofs.Math.Seq.{paste}
 use Rattle.allocator.specs.Allocators.{releasing}
-use Rattle.allocator.specs.Maps.{Cell}
+use Rattle.allocator.specs.declared.cell.Cell.{Cell}
 use Rattle.authority.specs.Images.{word_at}
 use Rattle.memory.specs.Memories.{wipe_answer}
 use Rattle.quarantine.specs.Runs.{in_runs}
