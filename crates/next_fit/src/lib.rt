@@ -17,7 +17,7 @@ mod search;
 mod tests;
 
 // Bit g of `used` says that granule g is not free, and bit g of `firsts` that it is the first of a run, where it is used.
-// Kept as it is: the bits lie in two lent buffers, since the project takes no memory from a heap.
+// Kept as it is: two buffers side by side, since a caller lends exactly these two.
 #[derive(Drop)]
 pub struct NextFit<'a> {
     used: &'a mut [u8],

@@ -3,6 +3,7 @@ ghost use Rattle.reader.specs.Steps.{letter_bit, with_letter};
 ghost use Rattle.reader.specs.Texts.{ReadsAs, letters_of};
 
 // The bit of a permission letter.
+// Kept as it is: that each letter is matched and gives its bit is a rule of the project.
 fn bit(letter: char) -> Option<u32>
     ensures { result ≡ letter_bit letter }
 {
