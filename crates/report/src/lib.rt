@@ -1,8 +1,8 @@
 // What a run of a script prints.
 #![tactic(auto)]
 
-ghost use Rattle.std.specs.Prelude.{Some};
-ghost use Rattle.report.specs.Texts.{part_text};
+ghost use Rattle.std.specs.Prelude.{Some, IfOk, string_bytes};
+ghost use Rattle.report.specs.Texts.{Prints, part_text};
 
 use allocator::quota::Quota;
 use machine::machine::Machine;
@@ -37,7 +37,9 @@ impl fmt::Display for Part<'_> {
 }
 
 // Runs a script on a fresh machine of 32 granules, flat memory under a quota of 24 over next fit, and gives what is printed.
-pub fn run_text(heap: Global, script: &[u8]) -> Result<String, AllocError> {
+pub fn run_text(heap: Global, script: &[u8]) -> Result<String, AllocError>
+    ensures { IfOk result (λ text. Prints script.now (string_bytes text)) }
+{
     let (mut bytes, mut tags) = ([0u8; 512], [0u8; 4]);
     let (mut used, mut firsts) = ([0u8; 4], [0u8; 4]);
     let memory = Flat::new(&mut bytes, &mut tags);
