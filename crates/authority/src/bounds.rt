@@ -46,6 +46,7 @@ impl Bounds {
     }
 
     // The addresses of both.
+    // Kept beside the trait's `meet`, which lies in a file of its own: its laws cite lemmas that name this type.
     #[tactic(auto, unfolding(crate::specs::BoundsMeet::bounds_between))]
     pub fn shared(self, other: Bounds) -> Bounds
         ensures base { result.base ≡ shared_base self.base self.top other.base other.top }

@@ -5,6 +5,7 @@ use crate::capability::Capability;
 use crate::numbers::Numbers;
 
 // The byte k places after another; 0 past the end.
+// Kept as it is: a number and no Option, since by the rules bytes past the end count as 0.
 fn byte_after(bytes: &[u8], at: usize, k: usize) -> u8
     ensures { result ≡ slice_index bytes.now (at + k) }
 {
@@ -22,6 +23,7 @@ pub fn word_at(bytes: &[u8], at: usize) -> u32
 }
 
 impl Capability {
+    // Kept as they are: an array and an Option by name, since `From` and `TryFrom` would be no plainer at a call.
     // Base in four bytes, low byte first, top likewise, the permission number, seven zero bytes.
     pub fn image(self) -> [u8; 16]
         ensures { result ≡ image_of self }

@@ -17,6 +17,7 @@ impl Permissions {
     ghost use Rattle.authority.specs.PermissionsMeet.{permissions_from};
 
     // The permissions of a number, if there are such.
+    // Kept as it is: an Option, since each caller has a denial of its own where there are none, and `TryFrom` asks for an error type.
     #[tactic(auto, using(crate::proofs::Making::permissions_none))]
     pub fn from_number(number: u32) -> Option<Permissions>
         ensures { result ≡ permissions_from number }
@@ -40,6 +41,7 @@ impl Permissions {
     }
 
     // The permissions of both.
+    // Kept beside the trait's `meet`, which lies in a file of its own: its laws cite lemmas that name this type.
     pub fn shared(self, other: Permissions) -> Permissions
         ensures { result.bits ≡ bit_and self.bits other.bits }
     {

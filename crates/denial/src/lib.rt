@@ -49,6 +49,7 @@ pub enum Layer {
 }
 
 impl Layer {
+    // Kept as it is: a character by name, since `char::from` would be no plainer.
     pub fn letter(self) -> char
         ensures { result ≡ letter_of self }
     {

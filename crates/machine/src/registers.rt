@@ -11,7 +11,8 @@ use authority::capability::Capability;
 pub const COMPARTMENTS: usize = 8;
 
 // The registers of the eight compartments.
-#[derive(Clone, Copy)]
+// Kept as it is: plain arrays, since the machine takes no memory from a heap.
+#[derive(Clone, Copy, Debug, PartialEq, Eq)]
 pub struct Registers {
     compartments: [Compartment; COMPARTMENTS],
 }
