@@ -34,6 +34,7 @@ fn run_line<C: CompartmentMachine>(machine: &mut C, entry: Entry) -> LineOutcome
 }
 
 // Runs the lines of a script, and keeps what each comes to. Without memory for that, nothing is run.
+#[tactic(auto, using(crate::proofs::Steps::state_more, crate::proofs::Steps::outcomes_more))]
 pub fn run_entries<C: CompartmentMachine>(
     heap: Global,
     machine: &mut C,
