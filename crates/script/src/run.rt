@@ -8,6 +8,8 @@ use reader::script::{Entry, read_script};
 use std::alloc::{AllocError, Global};
 
 // Performs the call of a line, if it reads as one.
+// Kept as they are, here and below: the clauses `fixed` and `denied`, since they relate the machine before to the machine
+// after, and what is fixed beside the state, since a machine has both.
 fn perform_line<C: CompartmentMachine>(machine: &mut C, entry: Entry) -> Result<u32, ScriptFault>
     ensures outcome { result ≡ (line_outcome (C.CompartmentMachine.fixed machine.old) (C.CompartmentMachine.state machine.old) entry).outcome }
     ensures state { C.CompartmentMachine.state machine.new ≡ reading_state (C.CompartmentMachine.fixed machine.old) (C.CompartmentMachine.state machine.old) entry.reading }
