@@ -67,7 +67,7 @@ impl<'a> Flat<'a> {
 
     // Kept beside next fit's `new`: the two zero their buffers or leave them, but their buffers and models differ.
     // A fresh memory over two buffers. Where the sizes do not fit it has no granules, and the buffers stay as they are.
-    #[tactic(auto, using(crate::proofs::Flats::bits_zero))]
+    #[tactic(auto, using(bits::proofs::Masks::bits_zero))]
     pub fn new(bytes: &'a mut [u8], tags: &'a mut [u8]) -> Flat<'a>
         ensures bytes { result.bytes.now ≡ (if sizes_fit (length bytes.old) (length tags.old) then replicate (length bytes.old) 0 else bytes.old) }
         ensures tags { result.tags.now ≡ (if sizes_fit (length bytes.old) (length tags.old) then replicate (length tags.old) 0 else tags.old) }
