@@ -1,5 +1,5 @@
 -- Two histories that agree once the group's own calls are struck out look the same to the others.
-use Rattle.std.proofs.Common.{◌≡◌, ℕ, ◌*◌, ◌/◌, Bool, true, false, cond, ◌&&◌, eqb, ltb, List, [], ◌∷◌, get_or, replicate, sym, refl, ap, ◌∙◌, subst, arith}
+use Rattle.std.proofs.Common.{◌≡◌, ◌*◌, ◌/◌, Bool, true, false, cond, ◌&&◌, eqb, ltb, List, [], ◌∷◌, get_or, replicate, sym, refl, ap, ◌∙◌, subst}
 use Rattle.std.proofs.lemmas.Bool.{cond-true, cond-false}
 use Rattle.allocator.specs.Allocators.{allocating}
 use Rattle.allocator.specs.declared.cell.Cell.TheVariants.{Free}
@@ -11,7 +11,7 @@ use Rattle.quarantine.specs.declared.sweep.Sweep.TheVariants.{Idle}
 use Rattle.history.specs.Histories.{Outcome, Sized, after, outcomes, state_after_all}
 use Rattle.history.specs.Isolation.{Alike, Every, GivesApart, Group, GroupCannotInterfere, Indistinguishable, Line, calls_in, is_ours, is_struck, left, lines_left, other_outcomes, own_outcomes}
 use Rattle.history.specs.Ledgers.{Ledger, empty_ledger, note, noted_all, slot}
-use Rattle.history.proofs.Base.{no_yes, none_at, some_none}
+use Rattle.history.proofs.Base.{none_at}
 use Rattle.history.proofs.Core.{Core, core_struck, core_sym}
 use Rattle.history.proofs.Invariant.{Inv}
 use Rattle.history.proofs.Keeps.{core_kept}
@@ -19,9 +19,6 @@ use Rattle.history.proofs.Laws.{reg_fresh, reg_slot, slot_row}
 use Rattle.history.proofs.Steps.{inv_fresh, inv_step}
 use Rattle.history.proofs.Tidy.{Tidy, tidy_step}
 use Rattle.history.proofs.View.{view}
-
-nil_cons : {A X : Type 0} {a : A} {l : List A} → [] ≡ a ∷ l → X
-nil_cons e = let z : ◌≡◌ {A = ℕ} 0 1 = cc in absurd (let f : ⊥ = omega arith in f)
 
 module _ (K : Fixed) (m : Group) where
   -- what two histories come to
@@ -81,7 +78,7 @@ module _ (K : Fixed) (m : Group) where
 
       heads : (y : Bool) → cond y (outcome (perform K s x) ∷ own₁) own₁ ≡ cond y (outcome (perform K t x) ∷ own₂) own₂ → (y ≡ true → outcome (perform K s x) ≡ outcome (perform K t x)) × (own₁ ≡ own₂)
       heads true q = ((λ _. cc), cc)
-      heads false q = ((λ f. no_yes (sym f)), q)
+      heads false q = ((λ f. cc), q)
 
       k : (outcome (perform K s x) ≡ outcome (perform K t x)) × Core m (state_after s (perform K s x)) (state_after t (perform K t x)) (note b x (outcome (perform K s x))) (note c x (outcome (perform K t x)))
       k = core_kept m K s t b c v v' d d' o x e gp.0 (heads (is_ours m x) own_lines).0
@@ -101,10 +98,10 @@ module _ (K : Fixed) (m : Group) where
     where
       go : (w : Bool) → is_struck m y ≡ w → Sim [] q → Sim [] (y ∷ q)
       go true e ih = strip_right y [] q ih e
-      go false e ih = λ s t b c v v' d d' o gp gq h1 h2. nil_cons (h1 ∙ ap calls_in (stays t y q e))
+      go false e ih = λ s t b c v v' d d' o gp gq h1 h2. cc (stays t y q e)
 
   sim_kept : (x : Call) (p : List Call) → ((q : List Call) → Sim p q) → is_struck m x ≡ false → (q : List Call) → Sim (x ∷ p) q
-  sim_kept x p ih e [] = λ s t b c v v' d d' o gp gq h1 h2. nil_cons (sym h1 ∙ ap calls_in (stays s x p e))
+  sim_kept x p ih e [] = λ s t b c v v' d d' o gp gq h1 h2. cc (stays s x p e)
   sim_kept x p ih e (y ∷ q) = go (is_struck m y) refl (sim_kept x p ih e q)
     where
       go : (w : Bool) → is_struck m y ≡ w → Sim (x ∷ p) q → Sim (x ∷ p) (y ∷ q)
@@ -126,10 +123,10 @@ module _ (K : Fixed) (m : Group) where
   tidy_fresh = record {
     free_tags = λ g e. none_at K.memory_granules g false;
     free_bytes = λ i e. none_at (16 * K.memory_granules) i 0;
-    dated = λ i k e. some_none (sym e);
+    dated = λ i k e. cc;
     even = λ i j e. refl;
-    reg_side = λ i a e. some_none (sym (sym (reg_fresh i) ∙ e));
-    mem_side = λ g k w t l. some_none (sym l);
+    reg_side = λ i a e. cc (reg_fresh i);
+    mem_side = λ g k w t l. cc;
   }
 
   core_fresh : Core m (fresh_state K) (fresh_state K) empty_ledger empty_ledger

@@ -1,22 +1,13 @@
 -- Small facts on tests, options and intervals.
-use Rattle.std.proofs.Common.{◌≡◌, ℕ, zero, suc, ◌+◌, ◌<◌, ◌≤◌, Bool, true, false, ◌&&◌, ltb, leb, ◌⊎◌, List, [], ◌∷◌, ◌++◌, get_or, replicate, Some, None, Ok, Err, Option, Result, refl, inl, inr, arith}
+use Rattle.std.proofs.Common.{◌≡◌, ℕ, zero, suc, ◌+◌, ◌<◌, ◌≤◌, Bool, true, ◌&&◌, ltb, leb, ◌⊎◌, List, [], ◌∷◌, ◌++◌, get_or, replicate, Some, Ok, Result, refl, inl, inr, arith}
 use Rattle.std.proofs.lemmas.Bool.Decides.{nat_tests}
 use Rattle.quarantine.specs.declared.run.Run.{Run}
-
-pub no_yes : {X : Type 0} → true ≡ false → X
-no_yes q = let z : ◌≡◌ {A = ℕ} 0 1 = cc in absurd (let f : ⊥ = omega arith in f)
 
 pub some_same : {X : Type 0} {x y : X} → Some x ≡ Some y → x ≡ y
 some_same e = cc
 
-pub some_none : {X Y : Type 0} {x : X} → ◌≡◌ {A = Option X} (Some x) None → Y
-some_none e = let z : ◌≡◌ {A = ℕ} 0 1 = cc in absurd (let f : ⊥ = omega arith in f)
-
 pub ok_same : {X E : Type 0} {x y : X} → ◌≡◌ {A = Result X E} (Ok x) (Ok y) → x ≡ y
 ok_same e = cc
-
-pub err_ok : {X E Y : Type 0} {f : E} {x : X} → ◌≡◌ {A = Result X E} (Err f) (Ok x) → Y
-err_ok e = let z : ◌≡◌ {A = ℕ} 0 1 = cc in absurd (let f : ⊥ = omega arith in f)
 
 pub none_at : {X : Type 0} (n i : ℕ) (a : X) → get_or (replicate n a) i a ≡ a
 none_at zero i a = refl

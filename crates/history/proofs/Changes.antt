@@ -20,10 +20,10 @@ use Rattle.quarantine.specs.declared.run.Run.{Run}
 use Rattle.quarantine.specs.declared.sweep.Sweep.{Sweep}
 use Rattle.quarantine.specs.declared.sweep.Sweep.TheVariants.{Idle, Open}
 use Rattle.history.specs.Ledgers.{Entry, Grant, Ledger, put_at, slot, with_entry, with_grant, with_granule}
-use Rattle.history.proofs.Base.{Among, among_append, among_left, among_right, no_yes, some_none, some_same, within, within_true}
+use Rattle.history.proofs.Base.{Among, among_append, among_left, among_right, some_same, within, within_true}
 use Rattle.history.proofs.Laws.{InsideAll, WholeRun, base_at, capability_at, get_released, get_set, get_swept, get_taken, get_wiped_bytes, get_wiped_tags, length_image, length_released, length_swept, length_taken, length_wiped_bytes, length_wiped_tags, made_base, read_image, read_other, read_same, read_set, reg, reg_emptied, reg_put, run_end, shaped_emptied, shaped_put}
 use Rattle.history.proofs.Invariant.{Inv, Live, Sound}
-use Rattle.history.proofs.Live.{among_in, begins_append, begins_in, disjoint, first_rest, grown, later, live_bounds, live_grown, live_kept, live_taken, more, once_left, once_more_of, once_nil, once_right, room_free, sound_base, sound_grown, sound_kept, sound_new, sound_span, whole_run}
+use Rattle.history.proofs.Live.{among_in, begins_append, begins_in, disjoint, grown, later, live_bounds, live_grown, live_kept, live_taken, more, once_left, once_more_of, once_nil, once_right, room_free, sound_base, sound_grown, sound_kept, sound_new, sound_span, whole_run}
 
 -- bounds inside the largest memory make a capability with all permissions
 pub whole_made : (x y : ℕ) → x < y → y ≤ 16384 → (w : Capability) × (capability_of x y all_permissions ≡ Some w)
@@ -38,12 +38,9 @@ whole_made x y lt le = (it, numbers_back it)
 
 -- a tagged place lies inside
 pub tagged_in : (ts : List Bool) (g : ℕ) → get_or ts g false ≡ true → g < length ts
-tagged_in [] g e = no_yes (sym e)
+tagged_in [] g e = cc
 tagged_in (x ∷ ts) zero e = omega arith
 tagged_in (x ∷ ts) (suc g) e = let h = tagged_in ts g e in omega arith
-
-pub idle_open : {X : Type 0} {p : ℕ} → Open p ≡ Idle → X
-idle_open e = let z : ◌≡◌ {A = ℕ} 0 1 = cc in absurd (let f : ⊥ = omega arith in f)
 
 pub open_same : {p q : ℕ} → Open p ≡ Open q → p ≡ q
 open_same e = cc
@@ -103,7 +100,7 @@ module _ (K : Fixed) (s : State) (b : Ledger) (v : Inv K s b) where
     once = once_nil s.waiting (once_right s.painted s.waiting v.once);
     apart = λ r x. absurd x;
     numbered = v.numbered;
-    idle = λ e. idle_open e;
+    idle = λ e. cc;
     regs_new = λ j a e. (kept (reg s j) a (sym (there j) ∙ e)).1;
     tags_new = λ p e. let z : 0 ≡ p = open_same e in (omega arith, λ g lt t. absurd (let f : ⊥ = omega arith in f));
   }
@@ -112,11 +109,11 @@ module _ (K : Fixed) (s : State) (b : Ledger) (v : Inv K s b) where
       there j = reg_emptied s.waiting s.registers j
 
       kept : (o : Option Capability) (a : Capability) → survivor s.waiting o ≡ Some a → (o ≡ Some a) × (in_runs s.waiting (base_of a / 16) ≡ false)
-      kept None a e = some_none (sym e)
+      kept None a e = cc
       kept (Some c) a e = go (in_runs s.waiting (base_of c / 16)) refl e
         where
           go : (t : Bool) → in_runs s.waiting (base_of c / 16) ≡ t → cond t None (Some c) ≡ Some a → (Some c ≡ Some a) × (in_runs s.waiting (base_of a / 16) ≡ false)
-          go true q e = some_none (sym e)
+          go true q e = cc
           go false q e = (e, subst (λ (x : Capability). in_runs s.waiting (base_of x / 16) ≡ false) (some_same e) q)
 
   -- k granules are passed
@@ -135,7 +132,7 @@ module _ (K : Fixed) (s : State) (b : Ledger) (v : Inv K s b) where
     once = v.once;
     apart = v.apart;
     numbered = v.numbered;
-    idle = λ e. idle_open e;
+    idle = λ e. cc;
     regs_new = v.regs_new;
     tags_new = λ q e. let z : p + k ≡ q = open_same e in
         (omega arith, λ g lt t. elim (cases_lt g p) [ inl h ↦ (v.tags_new p sw).1 g h (still g t).0 | inr h ↦ (still g t).1 h (omega arith) ]);
@@ -147,7 +144,7 @@ module _ (K : Fixed) (s : State) (b : Ledger) (v : Inv K s b) where
         where
           go : (w i y : Bool) → within p k g ≡ w → in_runs s.painted (word_at s.bytes (16 * g) / 16) ≡ i → cond (w && i) false y ≡ true
               → (y ≡ true) × (p ≤ g → g < p + k → in_runs s.painted (word_at s.bytes (16 * g) / 16) ≡ false)
-          go true true y a c e = no_yes (sym e)
+          go true true y a c e = cc
           go true false y a c e = (e, λ _ _. c)
           go false i y a c e = (e, λ lo hi. absurd (out p k g a lo hi))
             where
@@ -200,14 +197,14 @@ module _ (K : Fixed) (s : State) (b : Ledger) (v : Inv K s b) where
     numbered = v.numbered;
     idle = λ e. refl;
     regs_new = λ j a e. refl;
-    tags_new = λ q e. idle_open (sym e);
+    tags_new = λ q e. cc;
   }
     where
       still : (g : ℕ) → get_or (with_ended s).tags g false ≡ true → (get_or s.tags g false ≡ true) × (in_runs s.painted g ≡ false)
       still g t = go (in_runs s.painted g) (get_or s.tags g false) refl (sym (painted_wiped_tags g) ∙ t)
         where
           go : (i y : Bool) → in_runs s.painted g ≡ i → cond i false y ≡ true → (y ≡ true) × (in_runs s.painted g ≡ false)
-          go true y q e = no_yes (sym e)
+          go true y q e = cc
           go false y q e = (e, q)
 
       read : (g : ℕ) → in_runs s.painted g ≡ false → capability_at (with_ended s).bytes g ≡ capability_at s.bytes g
@@ -219,7 +216,7 @@ module _ (K : Fixed) (s : State) (b : Ledger) (v : Inv K s b) where
       was g e = go (in_runs s.painted g) (get_or s.cells g Free) (sym (painted_released g) ∙ e)
         where
           go : (t : Bool) (x : Cell) → cond t Free x ≡ Rest → x ≡ Rest
-          go true x q = let z : ◌≡◌ {A = ℕ} 0 1 = cc in absurd (let f : ⊥ = omega arith in f)
+          go true x q = cc
           go false x q = q
 
   -- a sweep is shut
@@ -240,7 +237,7 @@ module _ (K : Fixed) (s : State) (b : Ledger) (v : Inv K s b) where
     numbered = v.numbered;
     idle = λ e. refl;
     regs_new = λ j a e. refl;
-    tags_new = λ q e. idle_open (sym e);
+    tags_new = λ q e. cc;
   }
 
   -- a run found whole is the grant's
@@ -324,7 +321,7 @@ module _ (K : Fixed) (s : State) (b : Ledger) (v : Inv K s b) where
       still g t = go (eqb g (i / 16)) refl (sym (get_set s.tags (i / 16) g false false (omega (arith, v.l_tags))) ∙ t)
         where
           go : (u : Bool) → eqb g (i / 16) ≡ u → cond u false (get_or s.tags g false) ≡ true → (get_or s.tags g false ≡ true) × (g ≢ i / 16)
-          go true q e = no_yes (sym e)
+          go true q e = cc
           go false q e = (e, eqb-false g (i / 16) q)
 
   pub inv_capability : (g₀ : ℕ) (c : Capability) (e : Option Entry) → g₀ < K.memory_granules → Sound s.cells b.latest b.grants c e → in_runs s.painted (base_of c / 16) ≡ false
@@ -388,7 +385,7 @@ module _ (K : Fixed) (s : State) (b : Ledger) (v : Inv K s b) (c r n at next : �
   still_ends x l old e = go (within at n (x.start + x.length)) (eqb (x.start + x.length) at) refl refl (sym (get_taken s.cells at n (x.start + x.length) pos room.0) ∙ e)
     where
       go : (t u : Bool) → within at n (x.start + x.length) ≡ t → eqb (x.start + x.length) at ≡ u → cond t (cond u First Rest) (get_or s.cells (x.start + x.length) Free) ≡ Rest → ⊥
-      go true true p q z = first_rest z
+      go true true p q z = cc
       go true false p q z =
           let h = within_true at n (x.start + x.length) p in
           let ne : x.start + x.length ≢ at = eqb-false (x.start + x.length) at q in

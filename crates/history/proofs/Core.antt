@@ -7,7 +7,7 @@ use Rattle.machine.specs.Calls.{Call}
 use Rattle.machine.specs.Model.{Fixed, State, Effect, outcome, state_after, with_register, with_byte, with_capability}
 use Rattle.history.specs.Isolation.{Group, GivesApart, Outside, is_struck}
 use Rattle.history.specs.Ledgers.{Entry, Grant, Ledger, loaded, note, slot, stored, with_entry, with_granule}
-use Rattle.history.proofs.Base.{no_yes, within, within_true}
+use Rattle.history.proofs.Base.{within, within_true}
 use Rattle.history.proofs.Invariant.{Inv}
 use Rattle.history.proofs.Laws.{get_image, get_set, reg, reg_put, reg_slot, slot_row}
 use Rattle.history.proofs.Steps.{reg_top}
@@ -59,12 +59,12 @@ module _ (m : Group) (K : Fixed) (s t : State) (b c : Ledger) (v : Inv K s b) (d
     bytes = o.bytes;
     tags = o.tags;
     registers = λ j h. reg_put s.registers n r j x v.shaped hn hr
-        ∙ cond-false (eqb j (slot n r)) x (reg s j) (ne_eqb j (slot n r) (λ q. no_yes (sym y ∙ ap m (sym (slot_row n r hr) ∙ ap (λ (k : ℕ). k / 8) (sym q)) ∙ h))) ∙ o.registers j h;
+        ∙ cond-false (eqb j (slot n r)) x (reg s j) (ne_eqb j (slot n r) (λ q. cc (sym y ∙ ap m (sym (slot_row n r hr) ∙ ap (λ (k : ℕ). k / 8) (sym q)) ∙ h))) ∙ o.registers j h;
   }
 
   -- a byte of the group's is none of the others'
   apart_from : (i : ℕ) (a : Capability) → reg s i ≡ Some a → m (i / 8) ≡ true → (x : ℕ) → base_of a / 16 ≤ x / 16 → x / 16 ≤ (top_of a - 1) / 16 → Outside m b x → ⊥
-  apart_from i a e y x lo hi u = no_yes (sym y ∙ sym (reg_owner m K s b v d i a e x lo hi u.0 u.1 u.2 u.3) ∙ u.4)
+  apart_from i a e y x lo hi u = cc (reg_owner m K s b v d i a e x lo hi u.0 u.1 u.2 u.3)
 
   left_byte : (i : ℕ) (a : Capability) → reg s i ≡ Some a → m (i / 8) ≡ true → (x n : ℕ) → base_of a ≤ x → x < top_of a → Core m (with_byte s x n) t b c
   left_byte i a e y x n lo hi = record {
@@ -106,8 +106,8 @@ module _ (m : Group) (K : Fixed) (s t : State) (b c : Ledger) (v : Inv K s b) (d
 pub core_struck : (m : Group) (K : Fixed) (s t : State) (b c : Ledger) → Inv K s b → Tidy m s b → Core m s t b c → {x : Call} {d : Effect} → View K s x d → is_struck m x ≡ true → GivesApart m x
     → Core m (state_after s d) t (note b x (outcome d)) c
 core_struck m K s t b c v d o v_no y gift = o
-core_struck m K s t b c v d o (v_grant at next hc hr pos same e) y gift = no_yes (sym y)
-core_struck m K s t b c v d o (v_free a hc hr e own al whole w) y gift = no_yes (sym y)
+core_struck m K s t b c v d o (v_grant at next hc hr pos same e) y gift = cc
+core_struck m K s t b c v d o (v_free a hc hr e own al whole w) y gift = cc
 core_struck m K s t b c v d o (v_derive {c = n} {r} a x hc hr ht e q) y gift = left_reg m K s t b c v d o n r hc hr y _ _
 core_struck m K s t b c v d o (v_getb a hc hr e al lt) y gift = o
 core_struck m K s t b c v d o (v_putb {c = n} {r} {off} {v = x} a hc hr e al lt) y gift =
@@ -121,7 +121,7 @@ core_struck m K s t b c v d o (v_getc {c = n} {r} {off} {t = u} a a' hc hr ht e 
     (left_reg m K s t b c v d o n u hc ht y _ _)
 core_struck m K s t b c v d o (v_give {c = n} {r} {d = n'} {t = u} a hc hr hd ht e) y gift = left_reg m K s t b c v d o n' u hd ht (sym gift ∙ y) _ _
 core_struck m K s t b c v d o (v_drop {c = n} {r} hc hr) y gift = left_reg m K s t b c v d o n r hc hr y _ _
-core_struck m K s t b c v d o (v_open e) y gift = no_yes (sym y)
-core_struck m K s t b c v d o (v_pass p pos e lt) y gift = no_yes (sym y)
-core_struck m K s t b c v d o (v_end p pos e le) y gift = no_yes (sym y)
-core_struck m K s t b c v d o (v_shut p e) y gift = no_yes (sym y)
+core_struck m K s t b c v d o (v_open e) y gift = cc
+core_struck m K s t b c v d o (v_pass p pos e lt) y gift = cc
+core_struck m K s t b c v d o (v_end p pos e le) y gift = cc
+core_struck m K s t b c v d o (v_shut p e) y gift = cc

@@ -29,9 +29,9 @@ use Rattle.quarantine.specs.declared.sweep.Sweep.{Sweep}
 use Rattle.quarantine.specs.declared.sweep.Sweep.TheVariants.{Idle, Open}
 use Rattle.history.specs.Isolation.{Group, GivesApart, Outside, is_ours, is_struck}
 use Rattle.history.specs.Ledgers.{Entry, Ledger, granted as noted_grant, loaded as noted_load, note, noted, slot, stored, with_entry, with_granule}
-use Rattle.history.proofs.Base.{err_ok, no_yes, ok_same, some_none, some_same}
+use Rattle.history.proofs.Base.{ok_same, some_same}
 use Rattle.history.proofs.Both.{core_byte, core_cap, core_end, core_grant, core_paint, core_pass, core_reg, core_shut, core_wait, granule_alike}
-use Rattle.history.proofs.Changes.{idle_open, inv_pass, open_same, whole_made}
+use Rattle.history.proofs.Changes.{inv_pass, open_same, whole_made}
 use Rattle.history.proofs.Core.{Core}
 use Rattle.history.proofs.Invariant.{Inv}
 use Rattle.history.proofs.Laws.{made_base, reg_slot, slot_row}
@@ -55,20 +55,20 @@ module _ {R : ℕ → ℕ → State → State → Type 0} where
 
   two_unless : (p q : Bool) (f : MachineFault) {d e : Effect} → p ≡ q → (p ≡ true → Match R d e) → Match R (unless p f d) (unless q f e)
   two_unless true true f eq h = h refl
-  two_unless true false f eq h = no_yes eq
-  two_unless false true f eq h = no_yes (sym eq)
+  two_unless true false f eq h = cc
+  two_unless false true f eq h = cc
   two_unless false false f eq h = m_no
 
   two_held : (x y : Option Capability) {k l : Capability → Effect} → x ≡ y → ((a : Capability) → x ≡ Some a → y ≡ Some a → Match R (k a) (l a)) → Match R (held x k) (held y l)
   two_held None None eq h = m_no
-  two_held None (Some a) eq h = some_none (sym eq)
-  two_held (Some a) None eq h = some_none eq
+  two_held None (Some a) eq h = cc
+  two_held (Some a) None eq h = cc
   two_held (Some a) (Some a') {k} {l} eq h = subst (λ (z : Capability). Match R (k a) (l z)) (some_same eq) (h a refl (sym eq))
 
   two_vacant : (x y : Option Capability) {d e : Effect} → x ≡ y → Match R d e → Match R (vacant x d) (vacant y e)
   two_vacant None None eq h = h
-  two_vacant None (Some a) eq h = some_none (sym eq)
-  two_vacant (Some a) None eq h = some_none eq
+  two_vacant None (Some a) eq h = cc
+  two_vacant (Some a) None eq h = cc
   two_vacant (Some a) (Some a') eq h = m_no
 
   two_permitted : (x : Option Permissions) {k l : Permissions → Effect} → ((p : Permissions) → Match R (k p) (l p)) → Match R (permitted x k) (permitted x l)
@@ -77,8 +77,8 @@ module _ {R : ℕ → ℕ → State → State → Type 0} where
 
   two_memory : {X : Type 0} (x y : Result X MemoryFault) {k l : X → Effect} → x ≡ y → ((a : X) → x ≡ Ok a → Match R (k a) (l a)) → Match R (by_memory x k) (by_memory y l)
   two_memory (Err f) (Err f') eq h = two_denied (from_memory f) (from_memory f') (ap from_memory (err_same eq))
-  two_memory (Err f) (Ok a) eq h = err_ok eq
-  two_memory (Ok a) (Err f) eq h = err_ok (sym eq)
+  two_memory (Err f) (Ok a) eq h = cc
+  two_memory (Ok a) (Err f) eq h = cc
   two_memory (Ok a) (Ok a') {k} {l} eq h = subst (λ (z : _). Match R (k a) (l z)) (ok_same eq) (h a refl)
 
   two_granule : (x : Result ℕ MachineFault) {k l : ℕ → Effect} → ((g : ℕ) → x ≡ Ok g → Match R (k g) (l g)) → Match R (at_granule x k) (at_granule x l)
@@ -176,14 +176,14 @@ module _ (m : Group) (K : Fixed) (s t : State) (b c : Ledger) (v : Inv K s b) (v
 
   two_open : (w w' : Sweep) → w ≡ w' → Match (Agrees Call.OpenSweep) (open_rule s w) (open_rule t w')
   two_open Idle Idle e = two_unless _ _ _ (ap (λ (l : List Run). ltb 0 (length l)) o.waiting) λ _. m_ok (ap length o.waiting, core_paint m K s t b c v v' d d' o)
-  two_open Idle (Open p) e = idle_open (sym e)
-  two_open (Open p) Idle e = idle_open e
+  two_open Idle (Open p) e = cc
+  two_open (Open p) Idle e = cc
   two_open (Open p) (Open p') e = m_no
 
   two_step : (k : ℕ) (w w' : Sweep) → w ≡ w' → s.sweep ≡ w → t.sweep ≡ w' → Match (Agrees (Call.Step k)) (stepped K.memory_granules s k w) (stepped K.memory_granules t k w')
   two_step k Idle Idle e q q' = m_no
-  two_step k Idle (Open p) e q q' = idle_open (sym e)
-  two_step k (Open p) Idle e q q' = idle_open e
+  two_step k Idle (Open p) e q q' = cc
+  two_step k (Open p) Idle e q q' = cc
   two_step k (Open p) (Open p') e q q' =
       let z : p ≡ p' = open_same e in
       subst (λ (x : ℕ). Match (Agrees (Call.Step k)) (stepped K.memory_granules s k (Open p)) (stepped K.memory_granules t k (Open x))) z
@@ -198,15 +198,15 @@ module _ (m : Group) (K : Fixed) (s t : State) (b c : Ledger) (v : Inv K s b) (v
 
   two_shut : (w w' : Sweep) → w ≡ w' → Match (Agrees Call.Shut) (shut_rule s w) (shut_rule t w')
   two_shut Idle Idle e = m_no
-  two_shut Idle (Open p) e = idle_open (sym e)
-  two_shut (Open p) Idle e = idle_open e
+  two_shut Idle (Open p) e = cc
+  two_shut (Open p) Idle e = cc
   two_shut (Open p) (Open p') e = m_ok (ap length o.painted, core_shut m K s t b c v v' d d' o)
 
   -- the group's own frees, answered alike
   two_free : (n r : ℕ) {x y : Effect} → View K s (Call.Free n r) x → View K t (Call.Free n r) y → outcome x ≡ outcome y → Match (Agrees (Call.Free n r)) x y
   two_free n r (v_no {f = k}) (v_no {f = k'}) e = two_denied k k' (err_same e)
-  two_free n r v_no (v_free a hc hr at own al wh w) e = err_ok e
-  two_free n r (v_free a hc hr at own al wh w) v_no e = err_ok (sym e)
+  two_free n r v_no (v_free a hc hr at own al wh w) e = cc
+  two_free n r (v_free a hc hr at own al wh w) v_no e = cc
   two_free n r (v_free a hc hr at own al wh w) (v_free a' hc' hr' at' own' al' wh' w') e =
       let z : base_of a ≡ base_of a' = ok_same e in
       m_ok (z, core_wait m K s t b c v v' d d' o _ _ (λ i. record { start = z i / 16; length = run_length (o.cells i) (z i / 16) }))

@@ -24,7 +24,7 @@ use Rattle.quarantine.specs.declared.run.Run.{Run}
 use Rattle.machine.specs.declared.registers.Registers.{Registers}
 use Rattle.history.specs.Ledgers.{slot}
 use Rattle.history.specs.Provenance.{LiesWithin}
-use Rattle.history.proofs.Base.{Among, within, within_true, none_at, no_yes, some_none}
+use Rattle.history.proofs.Base.{Among, within, within_true, none_at}
 use Rattle.history.proofs.Places.{eqb_same, set_place, paste_place, fill_place, fill_length, within_is, within_below, within_above, run_length_of, run_place, rests_rest, rests_end, rests_least}
 use Rattle.history.proofs.Authorities.{meet_below, meet_inside, meet_self, made_numbers, over_authority}
 
@@ -198,7 +198,7 @@ pub within_derived : (a w d : Capability) (lo len p : ℕ) → LiesWithin a w �
 within_derived a w d lo len p h e = go (permissions_from p) e
   where
     go : (o : Option Permissions) → derived_with a lo len o ≡ Some d → LiesWithin d w
-    go None e = some_none (sym e)
+    go None e = cc
     go (Some q) e =
         let m = over_authority (meet_authority a.authority (wanted a lo len q)) d e in
         ap (λ (x : Authority). meet_authority x w.authority) m ∙ (meet_below a.authority (wanted a lo len q) w.authority h ∙ sym m)
@@ -401,8 +401,8 @@ whole_inside cs r w = elim (cases_lt (r.start + r.length - 1) (length cs)) [
 ]
   where
     never : (t : Bool) → cond t First Rest ≡ Free → ⊥
-    never true e = let z : ◌≡◌ {A = ℕ} 0 1 = cc in omega arith
-    never false e = let z : ◌≡◌ {A = ℕ} 0 1 = cc in omega arith
+    never true e = cc
+    never false e = cc
 
 -- its length in the map is its own
 whole_length : (cs : List Cell) (r : Run) → WholeRun cs r → run_length cs r.start ≡ r.length
@@ -429,12 +429,12 @@ still_whole cs r x w v apart = record {
 }
   where
     go : (t : Bool) → cond t Free (get_or cs (x.start + x.length) Free) ≡ Rest → ⊥
-    go true q = let z : ◌≡◌ {A = ℕ} 0 1 = cc in omega arith
+    go true q = cc
     go false q = v.end q
 
 others_whole : (cs : List Cell) (r : Run) (rs : List Run) → ((x : Run) → Among x (r ∷ rs) → WholeRun cs x) → Disjoint (r ∷ rs) → (x : Run) → Among x rs → WholeRun (freed r cs) x
 others_whole cs r rs h d x a = still_whole cs r x (h r (inl refl)) (h x (inr a)) (λ g y. elim (cases_Bool (in_run r g)) [
-  | inl z ↦ no_yes (sym (in_among rs x g a y) ∙ d.0 g z)
+  | inl z ↦ cc (in_among rs x g a y, d.0 g z)
   | inr z ↦ z
 ])
 

@@ -12,20 +12,11 @@ use Rattle.authority.specs.declared.capability.Capability.{Capability}
 use Rattle.machine.specs.Runs.{begins_at, in_run, in_runs}
 use Rattle.quarantine.specs.declared.run.Run.{Run}
 use Rattle.history.specs.Ledgers.{Entry, Grant, put_at}
-use Rattle.history.proofs.Base.{Among, no_yes, some_same, within, within_true}
+use Rattle.history.proofs.Base.{Among, some_same, within, within_true}
 use Rattle.history.proofs.Laws.{Disjoint, get_taken, made_base, run_end, run_first, within_bounds, within_self}
 use Rattle.history.proofs.Invariant.{AllLive, Live, Once, Sound, part}
 
 -- cells differ
-
-pub first_free : {X : Type 0} → First ≡ Free → X
-first_free e = let z : ◌≡◌ {A = ℕ} 0 1 = cc in absurd (let f : ⊥ = omega arith in f)
-
-pub rest_free : {X : Type 0} → Rest ≡ Free → X
-rest_free e = let z : ◌≡◌ {A = ℕ} 0 1 = cc in absurd (let f : ⊥ = omega arith in f)
-
-pub first_rest : {X : Type 0} → First ≡ Rest → X
-first_rest e = let z : ◌≡◌ {A = ℕ} 0 1 = cc in absurd (let f : ⊥ = omega arith in f)
 
 -- the parts of a run
 
@@ -33,11 +24,11 @@ pub part_taken : (w : Run) (g : ℕ) → part w g ≡ Free → ⊥
 part_taken w g e = go (eqb g w.start) e
   where
     go : (b : Bool) → cond b First Rest ≡ Free → ⊥
-    go true e = first_free e
-    go false e = rest_free e
+    go true e = cc
+    go false e = cc
 
 pub part_first : (w : Run) (g : ℕ) → part w g ≡ First → g ≡ w.start
-part_first w g e = elim (cases_Bool (eqb g w.start)) [ inl y ↦ eqb-true g w.start y | inr n ↦ first_rest (sym (sym (cond-false (eqb g w.start) First Rest n) ∙ e)) ]
+part_first w g e = elim (cases_Bool (eqb g w.start)) [ inl y ↦ eqb-true g w.start y | inr n ↦ cc ]
 
 pub part_rest : (w : Run) (g : ℕ) → w.start < g → part w g ≡ Rest
 part_rest w g h = cond-false (eqb g w.start) First Rest (ne_eqb g w.start (omega arith))
@@ -51,7 +42,7 @@ pub in_run_from : (r : Run) (g : ℕ) → r.start ≤ g → g < r.start + r.leng
 in_run_from r g lo hi = grind (arith, nat_tests)
 
 pub among_in : (rs : List Run) (g : ℕ) → in_runs rs g ≡ true → (r : Run) × Among r rs × (r.start ≤ g) × (g < r.start + r.length)
-among_in [] g e = no_yes (sym e)
+among_in [] g e = cc
 among_in (r ∷ rs) g e = elim (or_cases (in_run r g) (in_runs rs g) e) [
   | inl h ↦ let q = in_run_true r g h in (r, inl refl, q.0, q.1)
   | inr h ↦ let q = among_in rs g h in (q.0, inr q.1, q.2, q.3)
@@ -91,7 +82,7 @@ begins_in [] b h p = refl
 begins_in (x ∷ rs) b h p =
     let q = or_parts (in_run x b) (in_runs rs b) p in
     or_from (eqb x.start b) (begins_at rs b) (elim (cases_Bool (eqb x.start b)) [
-      | inl y ↦ let e : x.start ≡ b = eqb-true x.start b y in let pos = h x (inl refl) in no_yes (sym (in_run_from x b (omega arith) (omega arith)) ∙ q.0)
+      | inl y ↦ let e : x.start ≡ b = eqb-true x.start b y in let pos = h x (inl refl) in cc (in_run_from x b (omega arith) (omega arith))
       | inr n ↦ n
     ]) (begins_in rs b (λ r a. h r (inr a)) q.1)
 
@@ -165,7 +156,7 @@ module _ {cs : List Cell} {latest : ℕ → Option ℕ} {grants : ℕ → Option
   wholly {k} {w} rs al l g₀ lo₀ hi₀ out g lo hi = elim (cases_Bool (in_runs rs g)) [
     | inl y ↦ let (r, am, rlo, rhi) = among_in rs g y in
         let s = same_run l (al r am).1 g lo hi rlo rhi in
-        no_yes (sym (in_among rs r g₀ am (omega arith) (omega arith)) ∙ out)
+        cc (in_among rs r g₀ am (omega arith) (omega arith))
     | inr n ↦ n
   ]
 
@@ -177,7 +168,7 @@ module _ {cs : List Cell} {latest : ℕ → Option ℕ} {grants : ℕ → Option
       | inl y ↦ let (x, am, lo, hi) = among_in rs g y in
           let h = in_run_true r g e in
           let s = same_run (al r (inl refl)).1 (al x (inr am)).1 g h.0 h.1 lo hi in
-          no_yes (sym (begins_among rs x am) ∙ (ap (begins_at rs) (sym s.0) ∙ o.0))
+          cc (begins_among rs x am)
       | inr n ↦ n
     ]),
     disjoint rs (λ x a. al x (inr a)) o.1,

@@ -7,7 +7,7 @@ use Rattle.std.proofs.lemmas.Bool.{cases_eq, cases_lt, cases_Bool, cond-true, co
 use Rattle.allocator.specs.declared.cell.Cell.{Cell}
 use Rattle.allocator.specs.declared.cell.Cell.TheVariants.{Free, First, Rest}
 use Rattle.allocator.specs.Maps.{rests_in_front, run_of}
-use Rattle.history.proofs.Base.{within, no_yes}
+use Rattle.history.proofs.Base.{within}
 
 -- two tests of one fact
 pub eqb_same : (a b c d : ℕ) → (a ≡ b → c ≡ d) → (c ≡ d → a ≡ b) → eqb a b ≡ eqb c d
@@ -58,8 +58,8 @@ fill_place xs b n i v d l = paste_place xs (replicate n v) b n i d l (length-rep
   where
     inside : (b n i : ℕ) → within b n i ≡ true → i - b < n
     inside b n i y = elim (cases_lt i b) [
-      | inl h ↦ no_yes (sym y ∙ within_below b n i h)
-      | inr h ↦ elim (cases_lt i (b + n)) [ inl k ↦ omega arith | inr k ↦ no_yes (sym y ∙ within_above b n i k) ]
+      | inl h ↦ cc (within_below b n i h)
+      | inr h ↦ elim (cases_lt i (b + n)) [ inl k ↦ omega arith | inr k ↦ cc (within_above b n i k) ]
     ]
 
 pub fill_length : {X : Type 0} (xs : List X) (b n : ℕ) (v : X) → b + n ≤ length xs → length (paste xs b (replicate n v) n) ≡ length xs
@@ -86,15 +86,15 @@ rests_rest (Rest ∷ cs) (suc g) h = rests_rest cs g (omega arith)
 
 pub rests_end : (cs : List Cell) → get_or cs (rests_in_front cs) Free ≡ Rest → ⊥
 unfolding rests_in_front
-rests_end [] e = let z : ◌≡◌ {A = ℕ} 0 1 = cc in omega arith
-rests_end (Free ∷ cs) e = let z : ◌≡◌ {A = ℕ} 0 1 = cc in omega arith
-rests_end (First ∷ cs) e = let z : ◌≡◌ {A = ℕ} 0 1 = cc in omega arith
+rests_end [] e = cc
+rests_end (Free ∷ cs) e = cc
+rests_end (First ∷ cs) e = cc
 rests_end (Rest ∷ cs) e = rests_end cs e
 
 pub rests_least : (cs : List Cell) (n : ℕ) → ((g : ℕ) → g < n → get_or cs g Free ≡ Rest) → n ≤ rests_in_front cs
 unfolding rests_in_front
 rests_least cs zero h = omega arith
-rests_least [] (suc n) h = let e = h 0 (omega arith) in let z : ◌≡◌ {A = ℕ} 0 1 = cc in absurd (let f : ⊥ = omega arith in f)
-rests_least (Free ∷ cs) (suc n) h = let e = h 0 (omega arith) in let z : ◌≡◌ {A = ℕ} 0 1 = cc in absurd (let f : ⊥ = omega arith in f)
-rests_least (First ∷ cs) (suc n) h = let e = h 0 (omega arith) in let z : ◌≡◌ {A = ℕ} 0 1 = cc in absurd (let f : ⊥ = omega arith in f)
+rests_least [] (suc n) h = let e = h 0 (omega arith) in cc
+rests_least (Free ∷ cs) (suc n) h = let e = h 0 (omega arith) in cc
+rests_least (First ∷ cs) (suc n) h = let e = h 0 (omega arith) in cc
 rests_least (Rest ∷ cs) (suc n) h = let i = rests_least cs n (λ g lt. h (suc g) (omega arith)) in omega arith

@@ -15,7 +15,7 @@ use Rattle.history.specs.Histories.{Sized, after, answer_to, outcomes, state_aft
 use Rattle.history.specs.Ledgers.{Ledger, empty_ledger, note, noted_all}
 use Rattle.history.specs.Provenance.{ledger}
 use Rattle.history.specs.Release.{FreedBySweep, IsFree, MemoryReturnsWhenTheSweepEnds, NoShut, NoShuts, NoneFree, Returns, Waits, granules_named, granules_named_in, granules_since, outcomes_since, run_from}
-use Rattle.history.proofs.Base.{Among, within, among_append, among_left, among_right, err_ok, ok_same, within_true}
+use Rattle.history.proofs.Base.{Among, within, among_append, among_left, among_right, ok_same, within_true}
 use Rattle.history.proofs.Invariant.{Inv, Live}
 use Rattle.history.proofs.Changes.{painted_released}
 use Rattle.history.proofs.Laws.{get_taken, made_base}
@@ -56,9 +56,6 @@ module _ {K : Fixed} {s : State} {b : Ledger} (v : Inv K s b) where
 among_nil : (rs : List Run) (r : Run) → Among r (rs ++ []) → Among r rs
 among_nil rs r h = elim (among_append rs [] r h) [ inl q ↦ q | inr q ↦ absurd q ]
 
-clash : {X : Type 0} → ◌≡◌ {A = ℕ} 0 1 → X
-clash z = absurd (let f : ⊥ = omega arith in f)
-
 -- what a call leaves of the runs in quarantine: all but those that a sweep's end frees
 stays : (K : Fixed) (s : State) (b : Ledger) → Inv K s b → {x : Call} {d : Effect} → View K s x d → (r : Run) → Among r (s.painted ++ s.waiting) → NoneFree (state_after s d) r
     → Among r ((state_after s d).painted ++ (state_after s d).waiting)
@@ -90,7 +87,7 @@ stays K s b v (v_shut p e) r am nf = am
 -- the run that an accepted free takes joins the waiting ones
 freed_joins : (K : Fixed) (s : State) {c n : ℕ} {d : Effect} → View K s (Call.Free c n) d → (at : ℕ) → outcome d ≡ Ok at
     → Among (run_from s at) ((state_after s d).painted ++ (state_after s d).waiting)
-freed_joins K s v_no at q = err_ok q
+freed_joins K s v_no at q = cc
 freed_joins K s (v_free a hc hr e own al whole w) at q =
     let z : base_of a ≡ at = ok_same q in
     subst (λ (i : ℕ). Among (run_from s i) (s.painted ++ (s.waiting ++ (run_from s (base_of a) ∷ [])))) z
@@ -148,7 +145,7 @@ module _ (K : Fixed) (s : State) (m : ℕ) (sw : s.sweep ≡ Open m) where
   on_step (v_getc a c hc hr ht e p q l al tag cap new) h lt = stay
   on_step (v_give a hc hr hd ht e) h lt = stay
   on_step (v_drop hc hr) h lt = stay
-  on_step (v_open e) h lt = let z : ◌≡◌ {A = ℕ} 0 1 = cc in clash z
+  on_step (v_open e) h lt = cc
   on_step (v_pass {k} p pos e l) h lt = let z : p ≡ m = cc in (ap (λ (n : ℕ). Open (n + k)) z, refl)
   on_step (v_end {k} p pos e l) h lt = let z : p ≡ m = cc in absurd (let f : ⊥ = omega arith in f)
   on_step (v_shut p e) h lt = absurd h
@@ -168,13 +165,13 @@ on_run K (x ∷ q) s m sw h lt =
 -- the step that ends the sweep
 at_end : (K : Fixed) (s : State) (b : Ledger) → Inv K s b → (m k : ℕ) → s.sweep ≡ Open m → K.memory_granules ≤ m + k → {d : Effect} → View K s (Call.Step k) d → (a : ℕ) → outcome d ≡ Ok a
     → (g : ℕ) → in_runs s.painted g ≡ true → get_or (state_after s d).cells g Free ≡ Free
-at_end K s b v m k sw le v_no a q g i = err_ok q
+at_end K s b v m k sw le v_no a q g i = cc
 at_end K s b v m k sw le (v_pass p pos e lt) a q g i = let z : p ≡ m = cc in absurd (let f : ⊥ = omega arith in f)
 at_end K s b v m k sw le (v_end p pos e l) a q g i = painted_released K s b v g ∙ cond-true _ _ _ i
 
 opened : (K : Fixed) (s : State) (b : Ledger) → Inv K s b → {d : Effect} → View K s Call.OpenSweep d → (a : ℕ) → outcome d ≡ Ok a
     → ((state_after s d).sweep ≡ Open 0) × ((state_after s d).painted ≡ s.waiting) × (s.painted ≡ [])
-opened K s b v v_no a q = err_ok q
+opened K s b v v_no a q = cc
 opened K s b v (v_open e) a q = (refl, refl, v.idle e)
 
 -- no granule becomes free in any other way
@@ -183,7 +180,7 @@ opened K s b v (v_open e) a q = (refl, refl, v.idle e)
 cut_last : (us : List Call) (x : Call) (xs ys : List Call) → us ++ (x ∷ []) ≡ xs ++ ys → ((zs : List Call) × (us ≡ xs ++ zs)) ⊎ (xs ≡ us ++ (x ∷ []))
 cut_last us x [] ys e = inl (us, refl)
 cut_last [] x (y ∷ []) ys e = inr (let z : x ≡ y = cc in ap (λ w. w ∷ []) (sym z))
-cut_last [] x (y ∷ (w ∷ xs)) ys e = let z : ◌≡◌ {A = ℕ} 0 1 = cc in clash z
+cut_last [] x (y ∷ (w ∷ xs)) ys e = cc
 cut_last (a ∷ us) x (y ∷ xs) ys e =
     let h : a ≡ y = cc in
     let t : us ++ (x ∷ []) ≡ xs ++ ys = cc in
@@ -269,7 +266,7 @@ wait_step K p x sz all r am = elim (joined_by K s (view K s x) r am') [
 
     none_left : (xs ys : List Call) → [] ≡ xs ++ ys → [] ≡ xs
     none_left [] ys e = refl
-    none_left (y ∷ xs) ys e = let z : ◌≡◌ {A = ℕ} 0 1 = cc in clash z
+    none_left (y ∷ xs) ys e = cc
 
 -- what holds at first and is kept by every call holds after every history
 every : (P : List Call → Type 0) → ((p : List Call) (x : Call) → P p → P (p ++ (x ∷ []))) → (done todo : List Call) → P done → P (done ++ todo)
@@ -392,8 +389,8 @@ went K s (v_give a hc hr hd ht q) n e = inl (record { was = n; opens = e; moved 
 went K s (v_drop hc hr) n e = inl (record { was = n; opens = e; moved = sym (add-zero n); no_shut = tt; near = inl refl; same = refl })
 went K s (v_open q) n e = inr (refl, (let z : n ≡ 0 = cc in z), (length s.waiting, refl), refl)
 went K s (v_pass {k} p pos q lt) n e = let z : p + k ≡ n = cc in inl (record { was = p; opens = q; moved = sym z; no_shut = tt; near = inr (omega arith); same = refl })
-went K s (v_end p pos q le) n e = let z : ◌≡◌ {A = ℕ} 0 1 = cc in clash z
-went K s (v_shut p q) n e = let z : ◌≡◌ {A = ℕ} 0 1 = cc in clash z
+went K s (v_end p pos q le) n e = cc
+went K s (v_shut p q) n e = cc
 
 back_step : (K : Fixed) (p : List Call) (x : Call) → GoesBack K p → GoesBack K (p ++ (x ∷ []))
 back_step K p x all n e = elim (went K s (view K s x) n (subst (λ (y : State). y.sweep ≡ Open n) (after_more K p x) e)) [
@@ -440,7 +437,7 @@ back_step K p x all n e = elim (went K s (view K s x) n (subst (λ (y : State). 
         here = sym (ap (after K) (o.history ∙ sym (append_assoc o.before (Call.OpenSweep ∷ []) o.since)) ∙ after_append K (fresh_state K) (o.before ++ (Call.OpenSweep ∷ [])) o.since)
 
 goes_back : (K : Fixed) (p : List Call) → GoesBack K p
-goes_back K p = every (GoesBack K) (back_step K) [] p (λ n e. let z : ◌≡◌ {A = ℕ} 0 1 = cc in clash z)
+goes_back K p = every (GoesBack K) (back_step K) [] p (λ n e. cc)
 
 -- the one way in which a granule becomes free
 frees : (K : Fixed) (s : State) (b : Ledger) → Inv K s b → {x : Call} {d : Effect} → View K s x d → (g : ℕ) → (IsFree s g → ⊥) → IsFree (state_after s d) g

@@ -15,7 +15,7 @@ use Rattle.machine.specs.Runs.{in_runs, survivor}
 use Rattle.quarantine.specs.declared.run.Run.{Run}
 use Rattle.history.specs.Isolation.{Group, GivesApart}
 use Rattle.history.specs.Ledgers.{Entry, Grant, Ledger, derived_entry, granted, loaded, note, slot, stored, with_entry, with_grant, with_granule, with_provenance}
-use Rattle.history.proofs.Base.{no_yes, some_none, some_same, within, within_true}
+use Rattle.history.proofs.Base.{some_same, within, within_true}
 use Rattle.history.proofs.Changes.{inv_pass, painted_released, painted_wiped_bytes, painted_wiped_tags, whole_made}
 use Rattle.history.proofs.Invariant.{Inv, Sound}
 use Rattle.history.proofs.Laws.{get_image, get_set, get_swept, get_taken, made_base, reg, reg_emptied, reg_in, reg_put, reg_slot, slot_row}
@@ -38,7 +38,7 @@ pub record Tidy (m : Group) (s : State) (b : Ledger) : Type 0 where
 
 -- a tag that a change may only have cleared
 untouched : (t : Bool) {y : Bool} → cond t false y ≡ true → y ≡ true
-untouched true e = no_yes (sym e)
+untouched true e = cc
 untouched false e = e
 
 clear_still : (t : Bool) {y : Bool} → y ≡ false → cond t false y ≡ false
@@ -147,7 +147,7 @@ module _ (m : Group) (K : Fixed) (s : State) (b : Ledger) (v : Inv K s b) (d : T
           (older (v.regs j a was) (d.reg_side j a was))
     ];
     mem_side = λ g k w t l q. elim (cases_Bool (fresh_byte (16 * g))) [
-      | inl y ↦ let z = span_in (base_of it) (top_of it) at n (16 * g) from to y in no_yes (sym t ∙ d.free_tags g (rm.1 g (omega arith) (omega arith)))
+      | inl y ↦ let z = span_in (base_of it) (top_of it) at n (16 * g) from to y in cc (d.free_tags g (rm.1 g (omega arith) (omega arith)))
       | inr x ↦ let l' = sym (cond-false (fresh_byte (16 * g)) (Some b.next) (b.latest (16 * g)) x) ∙ l in
           let lt = d.dated (16 * g) k l' in
           older (v.mem g t).2 (d.mem_side g k w t l' (sym (cond-false (eqb k b.next) (Some (record { to = c; whole = it })) (b.grants k) (ne_eqb k b.next (omega arith))) ∙ q))
@@ -179,7 +179,7 @@ module _ (m : Group) (K : Fixed) (s : State) (b : Ledger) (v : Inv K s b) (d : T
   tidy_fewer : (t : State) → t.cells ≡ s.cells → t.bytes ≡ s.bytes → ((g : ℕ) → get_or t.tags g false ≡ true → get_or s.tags g false ≡ true)
       → ((i : ℕ) (a : Capability) → reg t i ≡ Some a → reg s i ≡ Some a) → Tidy m t b
   tidy_fewer t es eb ht hr = record {
-    free_tags = λ g e. elim (cases_Bool (get_or t.tags g false)) [ inl y ↦ no_yes (sym (ht g y) ∙ d.free_tags g (ap (λ (l : List Cell). get_or l g Free) (sym es) ∙ e)) | inr n ↦ n ];
+    free_tags = λ g e. elim (cases_Bool (get_or t.tags g false)) [ inl y ↦ cc (ht g y, d.free_tags g (ap (λ (l : List Cell). get_or l g Free) (sym es) ∙ e)) | inr n ↦ n ];
     free_bytes = λ i e. ap (λ (l : List ℕ). get_or l i 0) eb ∙ d.free_bytes i (ap (λ (l : List Cell). get_or l (i / 16) Free) (sym es) ∙ e);
     dated = d.dated;
     even = d.even;
@@ -208,11 +208,11 @@ module _ (m : Group) (K : Fixed) (s : State) (b : Ledger) (v : Inv K s b) (d : T
       (λ g x. untouched (within p k g && in_runs s.painted (word_at s.bytes (16 * g) / 16)) (sym (get_swept s.painted s.bytes p k g s.tags) ∙ x)) (λ i a e. e)
 
 derived_side : (m : Group) (grants : ℕ → Option Grant) (o : Option Entry) (lo len p : ℕ) (y : Bool) → Side m grants o y → Side m grants (derived_entry o lo len p) y
-derived_side m grants None lo len p y h n w e has = some_none (sym e)
+derived_side m grants None lo len p y h n w e has = cc
 derived_side m grants (Some x) lo len p y h n w e has = go (derived x.capability lo len p) e
   where
     go : (q : Option Capability) → with_provenance x.provenance q ≡ Some n → m w.to ≡ y
-    go None e = some_none (sym e)
+    go None e = cc
     go (Some c) e = let k : x.provenance ≡ n.provenance = ap (λ (u : Entry). u.provenance) (some_same e) in h x w refl (ap grants k ∙ has)
 
 survived : (rs : List Run) (o : Option Capability) (a : Capability) → survivor rs o ≡ Some a → o ≡ Some a
@@ -220,7 +220,7 @@ survived rs None a e = e
 survived rs (Some c) a e = go (in_runs rs (base_of c / 16)) e
   where
     go : (t : Bool) → cond t None (Some c) ≡ Some a → Some c ≡ Some a
-    go true e = some_none (sym e)
+    go true e = cc
     go false e = e
 
 pub tidy_step : (m : Group) (K : Fixed) (s : State) (b : Ledger) → Inv K s b → Tidy m s b → {x : Call} {d : Effect} → GivesApart m x → View K s x d
@@ -260,7 +260,7 @@ tidy_step m K s b v t gift (v_getc {c} {r} {off} {t = u} a a' hc hr ht e al al' 
     (t.mem_side ((base_of a + off) / 16) o.provenance _ tag l o.live.granted))
 tidy_step m K s b v t gift (v_give {c} {r} {d} {t = u} a hc hr hd ht e) = tidy_reg m K s b v t d u hd ht (Some a) _ λ _ _.
     subst (λ (y : Bool). Side m b.grants (b.registers (slot c r)) y) (ap m (slot_row c r hr) ∙ gift) (t.reg_side (slot c r) a (sym (reg_slot s c r hr) ∙ e))
-tidy_step m K s b v t gift (v_drop {c} {r} hc hr) = tidy_reg m K s b v t c r hc hr None None λ a q. some_none (sym q)
+tidy_step m K s b v t gift (v_drop {c} {r} hc hr) = tidy_reg m K s b v t c r hc hr None None λ a q. cc
 tidy_step m K s b v t gift (v_open e) = tidy_fewer m K s b v t _ refl refl (λ g x. x) (λ i a q. survived s.waiting (reg s i) a (sym (reg_emptied s.waiting s.registers i) ∙ q))
 tidy_step m K s b v t gift (v_pass {k} p pos e lt) = tidy_pass m K s b v t p k
 tidy_step m K s b v t gift (v_end {k} p pos e le) =

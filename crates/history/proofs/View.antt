@@ -23,7 +23,7 @@ use Rattle.machine.specs.declared.fault.MachineFault.{MachineFault}
 use Rattle.machine.specs.declared.fault.MachineFault.TheVariants.{Align, Bounds, NoCap, Perm}
 use Rattle.quarantine.specs.declared.sweep.Sweep.{Sweep}
 use Rattle.quarantine.specs.declared.sweep.Sweep.TheVariants.{Idle, Open}
-use Rattle.history.proofs.Base.{err_ok, ok_same}
+use Rattle.history.proofs.Base.{ok_same}
 use Rattle.history.proofs.Laws.{capability_at}
 
 pub data View (K : Fixed) (s : State) : Call → Effect → Type 0 where
@@ -86,8 +86,8 @@ granule_is a off g e = go (leb (off + 16) (length_of a)) (eqb ((base_of a + off)
     go : (t u : Bool) → leb (off + 16) (length_of a) ≡ t → eqb ((base_of a + off) % 16) 0 ≡ u
         → cond t (cond u (Ok ((base_of a + off) / 16)) (Err Align)) (Err Bounds) ≡ Ok g → (off + 16 ≤ length_of a) × ((base_of a + off) % 16 ≡ 0) × (g ≡ (base_of a + off) / 16)
     go true true p q r = (leb-true _ _ p, eqb-true _ _ q, sym (ok_same r))
-    go true false p q r = err_ok r
-    go false u p q r = err_ok r
+    go true false p q r = cc
+    go false u p q r = cc
 
 module _ (K : Fixed) (s : State) (c r n : ℕ) (hc : c < 8) (hr : r < 8) (pos : 0 < n) (same : K.memory_granules ≡ K.allocator_granules) where
   abbrev Comes : Allocation → Type 0
