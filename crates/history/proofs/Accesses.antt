@@ -34,20 +34,12 @@ module _ (K : Fixed) (s : State) (b : Ledger) (v : Inv K s b) where
       }
 
   rightful : (u : Access) {x : Call} {d : Effect} → View K s x d → access_of x ≡ Some u → (n : ℕ) → outcome d ≡ Ok n → Rightful s b u
-  rightful u v_no e n q = cc
-  rightful u (v_grant at next hc hr pos same r) e n q = cc
   rightful u (v_free a hc hr at own al whole new) e n q = subst (Rightful s b) (some_same e) (through _ a hr at (omega arith) (omega arith) (own, tt))
-  rightful u (v_derive a d hc hr ht at is) e n q = cc
   rightful u (v_getb a hc hr at load lt) e n q = subst (Rightful s b) (some_same e) (through _ a hr at (omega arith) (omega arith) (load, tt))
   rightful u (v_putb a hc hr at store lt) e n q = subst (Rightful s b) (some_same e) (through _ a hr at (omega arith) (omega arith) (store, tt))
   rightful u (v_putc a a' hc hr ht at at' store caps lt al) e n q = subst (Rightful s b) (some_same e) (through _ a hr at (omega arith) (omega arith) (store, (caps, tt)))
   rightful u (v_getc a a' hc hr ht at load caps lt al tag is new) e n q = subst (Rightful s b) (some_same e) (through _ a hr at (omega arith) (omega arith) (load, (caps, tt)))
-  rightful u (v_give a hc hr hd ht at) e n q = cc
-  rightful u (v_drop hc hr) e n q = cc
-  rightful u (v_open w) e n q = cc
-  rightful u (v_pass p pos w lt) e n q = cc
-  rightful u (v_end p pos w le) e n q = cc
-  rightful u (v_shut p w) e n q = cc
+  rightful u _ e n q = cc
 
 pub accesses_follow_provenance : AccessesFollowProvenance
 accesses_follow_provenance K p x u a sized e q = rightful K (after K p) (ledger K p) (inv_run K p (fresh_state K) empty_ledger (inv_fresh K sized)) u (view K (after K p) x) e a q

@@ -166,17 +166,8 @@ module _ (K L : Fixed) (al : Alike K L) where
       let u = sym al.place in
       λ i. unless (is_register c r && (is_operand n && ltb 0 n)) BadNum
       (unless (eqb (p i) (q i)) Sizes (granted s c r n (allocating (u i) s.cells s.mark (w i) n) (allocating (u i) s.cells s.mark (w i) n).answer))
-  perform_alike s (Call.Free c r) = refl
-  perform_alike s (Call.Derive c r t lo len p) = refl
-  perform_alike s (Call.Getb c r off) = refl
-  perform_alike s (Call.Putb c r off v) = refl
-  perform_alike s (Call.Putc c r off t) = refl
-  perform_alike s (Call.Getc c r off t) = refl
-  perform_alike s (Call.Give c r d t) = refl
-  perform_alike s (Call.Drop c r) = refl
-  perform_alike s Call.OpenSweep = refl
   perform_alike s (Call.Step k) = let p = sym al.memory_granules in λ i. unless (is_operand k && ltb 0 k) BadNum (stepped (p i) s k s.sweep)
-  perform_alike s Call.Shut = refl
+  perform_alike s _ = refl
 
   fresh_alike : fresh_state L ≡ fresh_state K
   fresh_alike =

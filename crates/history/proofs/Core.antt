@@ -106,8 +106,6 @@ module _ (m : Group) (K : Fixed) (s t : State) (b c : Ledger) (v : Inv K s b) (d
 pub core_struck : (m : Group) (K : Fixed) (s t : State) (b c : Ledger) → Inv K s b → Tidy m s b → Core m s t b c → {x : Call} {d : Effect} → View K s x d → is_struck m x ≡ true → GivesApart m x
     → Core m (state_after s d) t (note b x (outcome d)) c
 core_struck m K s t b c v d o v_no y gift = o
-core_struck m K s t b c v d o (v_grant at next hc hr pos same e) y gift = cc
-core_struck m K s t b c v d o (v_free a hc hr e own al whole w) y gift = cc
 core_struck m K s t b c v d o (v_derive {c = n} {r} a x hc hr ht e q) y gift = left_reg m K s t b c v d o n r hc hr y _ _
 core_struck m K s t b c v d o (v_getb a hc hr e al lt) y gift = o
 core_struck m K s t b c v d o (v_putb {c = n} {r} {off} {v = x} a hc hr e al lt) y gift =
@@ -121,7 +119,4 @@ core_struck m K s t b c v d o (v_getc {c = n} {r} {off} {t = u} a a' hc hr ht e 
     (left_reg m K s t b c v d o n u hc ht y _ _)
 core_struck m K s t b c v d o (v_give {c = n} {r} {d = n'} {t = u} a hc hr hd ht e) y gift = left_reg m K s t b c v d o n' u hd ht (sym gift ∙ y) _ _
 core_struck m K s t b c v d o (v_drop {c = n} {r} hc hr) y gift = left_reg m K s t b c v d o n r hc hr y _ _
-core_struck m K s t b c v d o (v_open e) y gift = cc
-core_struck m K s t b c v d o (v_pass p pos e lt) y gift = cc
-core_struck m K s t b c v d o (v_end p pos e le) y gift = cc
-core_struck m K s t b c v d o (v_shut p e) y gift = cc
+core_struck m K s t b c v d o _ y gift = cc

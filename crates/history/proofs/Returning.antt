@@ -59,30 +59,20 @@ among_nil rs r h = elim (among_append rs [] r h) [ inl q ↦ q | inr q ↦ absur
 -- what a call leaves of the runs in quarantine: all but those that a sweep's end frees
 stays : (K : Fixed) (s : State) (b : Ledger) → Inv K s b → {x : Call} {d : Effect} → View K s x d → (r : Run) → Among r (s.painted ++ s.waiting) → NoneFree (state_after s d) r
     → Among r ((state_after s d).painted ++ (state_after s d).waiting)
-stays K s b v v_no r am nf = am
-stays K s b v (v_grant g next hc hr pos same e) r am nf = am
 stays K s b v (v_free a hc hr e own al whole w) r am nf = elim (among_append s.painted s.waiting r am) [
   | inl h ↦ among_left s.painted _ r h
   | inr h ↦ among_right s.painted _ r (among_left s.waiting _ r h)
 ]
-stays K s b v (v_derive a d hc hr ht e q) r am nf = am
-stays K s b v (v_getb a hc hr e perm lt) r am nf = am
-stays K s b v (v_putb a hc hr e perm lt) r am nf = am
-stays K s b v (v_putc a c hc hr ht e e' p q lt al) r am nf = am
-stays K s b v (v_getc a c hc hr ht e p q lt al tag cap new) r am nf = am
-stays K s b v (v_give a hc hr hd ht e) r am nf = am
-stays K s b v (v_drop hc hr) r am nf = am
 stays K s b v (v_open e) r am nf = elim (among_append s.painted s.waiting r am) [
   | inl h ↦ absurd (subst (λ (l : List Run). Among r l) (v.idle e) h)
   | inr h ↦ among_left s.waiting [] r h
 ]
-stays K s b v (v_pass p pos e lt) r am nf = am
 stays K s b v (v_end p pos e le) r am nf = elim (among_append s.painted s.waiting r am) [
   | inl h ↦ let l = (v.painted r h).1 in
       absurd (nf r.start (omega arith, omega (arith, l.some)) (painted_released K s b v r.start ∙ cond-true _ _ _ (in_among s.painted r r.start h (omega arith) (omega (arith, l.some)))))
   | inr h ↦ h
 ]
-stays K s b v (v_shut p e) r am nf = am
+stays K s b v _ r am nf = am
 
 -- the run that an accepted free takes joins the waiting ones
 freed_joins : (K : Fixed) (s : State) {c n : ℕ} {d : Effect} → View K s (Call.Free c n) d → (at : ℕ) → outcome d ≡ Ok at
@@ -135,20 +125,11 @@ module _ (K : Fixed) (s : State) (m : ℕ) (sw : s.sweep ≡ Open m) where
   stay = (rw (add-zero m) sw, refl)
 
   on_step : {x : Call} {d : Effect} → View K s x d → NoShut x (outcome d) → m + granules_named x (outcome d) < K.memory_granules → On s (state_after s d) m (granules_named x (outcome d))
-  on_step v_no h lt = stay
-  on_step (v_grant g next hc hr pos same e) h lt = stay
-  on_step (v_free a hc hr e own al whole w) h lt = stay
-  on_step (v_derive a d hc hr ht e q) h lt = stay
-  on_step (v_getb a hc hr e perm l) h lt = stay
-  on_step (v_putb a hc hr e perm l) h lt = stay
-  on_step (v_putc a c hc hr ht e e' p q l al) h lt = stay
-  on_step (v_getc a c hc hr ht e p q l al tag cap new) h lt = stay
-  on_step (v_give a hc hr hd ht e) h lt = stay
-  on_step (v_drop hc hr) h lt = stay
   on_step (v_open e) h lt = cc
   on_step (v_pass {k} p pos e l) h lt = let z : p ≡ m = cc in (ap (λ (n : ℕ). Open (n + k)) z, refl)
   on_step (v_end {k} p pos e l) h lt = let z : p ≡ m = cc in absurd (let f : ⊥ = omega arith in f)
   on_step (v_shut p e) h lt = absurd h
+  on_step _ h lt = stay
 
 on_run : (K : Fixed) (q : List Call) (s : State) (m : ℕ) → s.sweep ≡ Open m → NoShuts q (outcomes K s q) → m + granules_named_in q (outcomes K s q) < K.memory_granules
     → On s (state_after_all K s q) m (granules_named_in q (outcomes K s q))
@@ -215,8 +196,6 @@ AllWait K p = (r : Run) → Among r ((after K p).painted ++ (after K p).waiting)
 -- the runs in quarantine after a call were there before, but for the one that a free takes
 joined_by : (K : Fixed) (s : State) {x : Call} {d : Effect} → View K s x d → (r : Run) → Among r ((state_after s d).painted ++ (state_after s d).waiting)
     → Among r (s.painted ++ s.waiting) ⊎ ((c n at : ℕ) × (x ≡ Call.Free c n) × (outcome d ≡ Ok at) × (r ≡ run_from s at))
-joined_by K s v_no r am = inl am
-joined_by K s (v_grant g next hc hr pos same e) r am = inl am
 joined_by K s (v_free {c} {r = n} a hc hr e own al whole w) r am = elim (among_append s.painted _ r am) [
   | inl h ↦ inl (among_left s.painted _ r h)
   | inr h ↦ elim (among_append s.waiting _ r h) [
@@ -224,17 +203,9 @@ joined_by K s (v_free {c} {r = n} a hc hr e own al whole w) r am = elim (among_a
     | inr q ↦ elim q [ inl z ↦ inr (c, n, base_of a, refl, refl, z) | inr z ↦ absurd z ]
   ]
 ]
-joined_by K s (v_derive a d hc hr ht e q) r am = inl am
-joined_by K s (v_getb a hc hr e perm lt) r am = inl am
-joined_by K s (v_putb a hc hr e perm lt) r am = inl am
-joined_by K s (v_putc a c hc hr ht e e' p q lt al) r am = inl am
-joined_by K s (v_getc a c hc hr ht e p q lt al tag cap new) r am = inl am
-joined_by K s (v_give a hc hr hd ht e) r am = inl am
-joined_by K s (v_drop hc hr) r am = inl am
 joined_by K s (v_open e) r am = inl (among_right s.painted _ r (among_nil s.waiting r am))
-joined_by K s (v_pass p pos e lt) r am = inl am
 joined_by K s (v_end p pos e le) r am = inl (among_right s.painted _ r am)
-joined_by K s (v_shut p e) r am = inl am
+joined_by K s _ r am = inl am
 
 wait_step : (K : Fixed) (p : List Call) (x : Call) → Sized K → AllWait K p → AllWait K (p ++ (x ∷ []))
 wait_step K p x sz all r am = elim (joined_by K s (view K s x) r am') [
@@ -377,20 +348,11 @@ pub record Went (K : Fixed) (s : State) (x : Call) (d : Effect) (n : ℕ) : Type
   pub same : (state_after s d).painted ≡ s.painted
 
 went : (K : Fixed) (s : State) {x : Call} {d : Effect} → View K s x d → (n : ℕ) → (state_after s d).sweep ≡ Open n → Went K s x d n ⊎ ((x ≡ Call.OpenSweep) × (n ≡ 0) × ((a : ℕ) × (outcome d ≡ Ok a)) × ((state_after s d).painted ≡ s.waiting))
-went K s v_no n e = inl (record { was = n; opens = e; moved = sym (add-zero n); no_shut = tt; near = inl refl; same = refl })
-went K s (v_grant g next hc hr pos same q) n e = inl (record { was = n; opens = e; moved = sym (add-zero n); no_shut = tt; near = inl refl; same = refl })
-went K s (v_free a hc hr q own al whole w) n e = inl (record { was = n; opens = e; moved = sym (add-zero n); no_shut = tt; near = inl refl; same = refl })
-went K s (v_derive a d hc hr ht q z) n e = inl (record { was = n; opens = e; moved = sym (add-zero n); no_shut = tt; near = inl refl; same = refl })
-went K s (v_getb a hc hr q perm lt) n e = inl (record { was = n; opens = e; moved = sym (add-zero n); no_shut = tt; near = inl refl; same = refl })
-went K s (v_putb a hc hr q perm lt) n e = inl (record { was = n; opens = e; moved = sym (add-zero n); no_shut = tt; near = inl refl; same = refl })
-went K s (v_putc a c hc hr ht q q' p w lt al) n e = inl (record { was = n; opens = e; moved = sym (add-zero n); no_shut = tt; near = inl refl; same = refl })
-went K s (v_getc a c hc hr ht q p w lt al tag cap new) n e = inl (record { was = n; opens = e; moved = sym (add-zero n); no_shut = tt; near = inl refl; same = refl })
-went K s (v_give a hc hr hd ht q) n e = inl (record { was = n; opens = e; moved = sym (add-zero n); no_shut = tt; near = inl refl; same = refl })
-went K s (v_drop hc hr) n e = inl (record { was = n; opens = e; moved = sym (add-zero n); no_shut = tt; near = inl refl; same = refl })
 went K s (v_open q) n e = inr (refl, (let z : n ≡ 0 = cc in z), (length s.waiting, refl), refl)
 went K s (v_pass {k} p pos q lt) n e = let z : p + k ≡ n = cc in inl (record { was = p; opens = q; moved = sym z; no_shut = tt; near = inr (omega arith); same = refl })
 went K s (v_end p pos q le) n e = cc
 went K s (v_shut p q) n e = cc
+went K s _ n e = inl (record { was = n; opens = e; moved = sym (add-zero n); no_shut = tt; near = inl refl; same = refl })
 
 back_step : (K : Fixed) (p : List Call) (x : Call) → GoesBack K p → GoesBack K (p ++ (x ∷ []))
 back_step K p x all n e = elim (went K s (view K s x) n (subst (λ (y : State). y.sweep ≡ Open n) (after_more K p x) e)) [
@@ -442,7 +404,6 @@ goes_back K p = every (GoesBack K) (back_step K) [] p (λ n e. cc)
 -- the one way in which a granule becomes free
 frees : (K : Fixed) (s : State) (b : Ledger) → Inv K s b → {x : Call} {d : Effect} → View K s x d → (g : ℕ) → (IsFree s g → ⊥) → IsFree (state_after s d) g
     → (k n : ℕ) × (x ≡ Call.Step k) × (s.sweep ≡ Open n) × (K.memory_granules ≤ n + k) × (in_runs s.painted g ≡ true)
-frees K s b v v_no g t f = absurd (t f)
 frees K s b v (v_grant {n = n} at next hc hr pos same e) g t f = absurd (t (was (within at n g) refl))
   where
     room : FreeAt s.cells at n
@@ -455,21 +416,11 @@ frees K s b v (v_grant {n = n} at next hc hr pos same e) g t f = absurd (t (was 
         let h = room.1 (g - at) (omega arith) in
         ap (λ i. get_or s.cells i Free) (sym z) ∙ (get_or_default s.cells (at + (g - at)) Free Rest (omega (arith, room.0)) ∙ h)
     was false q = sym (cond-false (within at n g) (cond (eqb g at) First Rest) (get_or s.cells g Free) q) ∙ (sym (get_taken s.cells at n g pos room.0) ∙ f)
-frees K s b v (v_free a hc hr e own al whole w) g t f = absurd (t f)
-frees K s b v (v_derive a d hc hr ht e q) g t f = absurd (t f)
-frees K s b v (v_getb a hc hr e perm lt) g t f = absurd (t f)
-frees K s b v (v_putb a hc hr e perm lt) g t f = absurd (t f)
-frees K s b v (v_putc a c hc hr ht e e' p q lt al) g t f = absurd (t f)
-frees K s b v (v_getc a c hc hr ht e p q lt al tag cap new) g t f = absurd (t f)
-frees K s b v (v_give a hc hr hd ht e) g t f = absurd (t f)
-frees K s b v (v_drop hc hr) g t f = absurd (t f)
-frees K s b v (v_open e) g t f = absurd (t f)
-frees K s b v (v_pass p pos e lt) g t f = absurd (t f)
 frees K s b v (v_end {k} p pos e le) g t f = elim (cases_Bool (in_runs s.painted g)) [
   | inl y ↦ (k, p, refl, e, le, y)
   | inr y ↦ absurd (t (sym (cond-false (in_runs s.painted g) Free (get_or s.cells g Free) y) ∙ (sym (painted_released K s b v g) ∙ f)))
 ]
-frees K s b v (v_shut p e) g t f = absurd (t f)
+frees K s b v _ g t f = absurd (t f)
 
 pub freed_by_sweep : (K : Fixed) (p : List Call) (x : Call) (g : ℕ) → Sized K → (IsFree (after K p) g → ⊥) → IsFree (after K (p ++ (x ∷ []))) g → FreedBySweep K p x g
 freed_by_sweep K p x g sz t f =
