@@ -12,7 +12,7 @@ use Rattle.history.proofs.Invariant.{Inv}
 use Rattle.history.proofs.Laws.{reg_slot}
 use Rattle.history.proofs.Live.{sound_span}
 use Rattle.history.proofs.Steps.{inv_fresh, inv_run}
-use Rattle.history.proofs.View.{View, v_no, v_grant, v_free, v_derive, v_getb, v_putb, v_putc, v_getc, v_give, v_drop, v_open, v_pass, v_end, v_shut, view}
+use Rattle.history.proofs.View.{View, v_free, v_getb, v_putb, v_putc, v_getc, view}
 
 module _ (K : Fixed) (s : State) (b : Ledger) (v : Inv K s b) where
   -- an access through a register's capability, within it and with the permissions needed

@@ -131,14 +131,7 @@ module _ (K : Fixed) (m : Group) where
 
   core_fresh : Core m (fresh_state K) (fresh_state K) empty_ledger empty_ledger
   core_fresh = record {
-    latest = refl;
-    grants = refl;
-    next = refl;
-    cells = refl;
-    mark = refl;
-    waiting = refl;
-    painted = refl;
-    sweep = refl;
+    same = refl;
     registers = λ i h. refl;
     bytes = λ i h. refl;
     tags = λ i h. refl;

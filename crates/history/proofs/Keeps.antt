@@ -1,5 +1,5 @@
 -- A call that both histories make has one outcome, and keeps the two machines alike.
-use Rattle.std.proofs.Common.{◌≡◌, ℕ, ◌+◌, ◌-◌, ◌*◌, ◌/◌, ◌%◌, ◌<◌, ◌≤◌, Bool, true, false, cond, not, ◌&&◌, eqb, ltb, leb, List, length, Some, None, Ok, Err, Option, Result, sym, refl, ap, ◌∙◌, subst, arith}
+use Rattle.std.proofs.Common.{◌≡◌, ℕ, ◌+◌, ◌-◌, ◌*◌, ◌/◌, ◌%◌, ◌<◌, ◌≤◌, Bool, true, false, cond, not, ◌&&◌, eqb, ltb, leb, length, Some, None, Ok, Err, Option, Result, sym, refl, ap, ◌∙◌, subst, arith}
 use lib.Seq.{paste}
 use Rattle.std.proofs.lemmas.Bool.{and_parts, eqb-true, ltb-true}
 use Rattle.allocator.specs.Allocators.{Allocation, allocating, denied_by, placed}
@@ -24,7 +24,6 @@ use Rattle.machine.specs.Runs.{begins_at, most_runs}
 use Rattle.machine.specs.declared.fault.MachineFault.{MachineFault}
 use Rattle.machine.specs.declared.fault.MachineFault.TheVariants as F
 use Rattle.quarantine.specs.declared.fault.QuarantineFault.TheVariants as Q
-use Rattle.quarantine.specs.declared.run.Run.{Run}
 use Rattle.quarantine.specs.declared.sweep.Sweep.{Sweep}
 use Rattle.quarantine.specs.declared.sweep.Sweep.TheVariants.{Idle, Open}
 use Rattle.history.specs.Isolation.{Group, GivesApart, Outside, is_ours, is_struck}
@@ -39,7 +38,7 @@ use Rattle.history.proofs.Live.{sound_span}
 use Rattle.history.proofs.Rooms.{room}
 use Rattle.history.proofs.Steps.{reg_top}
 use Rattle.history.proofs.Tidy.{Tidy, tidy_pass}
-use Rattle.history.proofs.View.{View, granule_is, v_no, v_free, view}
+use Rattle.history.proofs.View.{View, granule_is, register_is, v_no, v_free, view}
 
 -- the same denial, or two accepted changes that R relates
 pub data Match (R : ℕ → ℕ → State → State → Type 0) : Effect → Effect → Type 0 where
@@ -55,21 +54,18 @@ module _ {R : ℕ → ℕ → State → State → Type 0} where
 
   two_unless : (p q : Bool) (f : MachineFault) {d e : Effect} → p ≡ q → (p ≡ true → Match R d e) → Match R (unless p f d) (unless q f e)
   two_unless true true f eq h = h refl
-  two_unless true false f eq h = cc
-  two_unless false true f eq h = cc
   two_unless false false f eq h = m_no
+  two_unless _ _ f eq h = cc
 
   two_held : (x y : Option Capability) {k l : Capability → Effect} → x ≡ y → ((a : Capability) → x ≡ Some a → y ≡ Some a → Match R (k a) (l a)) → Match R (held x k) (held y l)
   two_held None None eq h = m_no
-  two_held None (Some a) eq h = cc
-  two_held (Some a) None eq h = cc
   two_held (Some a) (Some a') {k} {l} eq h = subst (λ (z : Capability). Match R (k a) (l z)) (some_same eq) (h a refl (sym eq))
+  two_held _ _ eq h = cc
 
   two_vacant : (x y : Option Capability) {d e : Effect} → x ≡ y → Match R d e → Match R (vacant x d) (vacant y e)
   two_vacant None None eq h = h
-  two_vacant None (Some a) eq h = cc
-  two_vacant (Some a) None eq h = cc
   two_vacant (Some a) (Some a') eq h = m_no
+  two_vacant _ _ eq h = cc
 
   two_permitted : (x : Option Permissions) {k l : Permissions → Effect} → ((p : Permissions) → Match R (k p) (l p)) → Match R (permitted x k) (permitted x l)
   two_permitted None h = m_no
@@ -77,9 +73,8 @@ module _ {R : ℕ → ℕ → State → State → Type 0} where
 
   two_memory : {X : Type 0} (x y : Result X MemoryFault) {k l : X → Effect} → x ≡ y → ((a : X) → x ≡ Ok a → Match R (k a) (l a)) → Match R (by_memory x k) (by_memory y l)
   two_memory (Err f) (Err f') eq h = two_denied (from_memory f) (from_memory f') (ap from_memory (err_same eq))
-  two_memory (Err f) (Ok a) eq h = cc
-  two_memory (Ok a) (Err f) eq h = cc
   two_memory (Ok a) (Ok a') {k} {l} eq h = subst (λ (z : _). Match R (k a) (l z)) (ok_same eq) (h a refl)
+  two_memory _ _ eq h = cc
 
   two_granule : (x : Result ℕ MachineFault) {k l : ℕ → Effect} → ((g : ℕ) → x ≡ Ok g → Match R (k g) (l g)) → Match R (at_granule x k) (at_granule x l)
   two_granule (Err f) h = m_no
@@ -98,9 +93,6 @@ module _ {R : ℕ → ℕ → State → State → Type 0} where
       → ((a : Capability) → R 0 0 (with_register s c r (Some a)) (with_register t c r (Some a))) → Match R (loaded s c r x) (loaded t c r x)
   two_loaded s t c r None p q h = m_no
   two_loaded s t c r (Some a) p q h = two_unless _ _ _ (λ i. not (is_revoked (p i) (q i) a)) λ _. m_ok (h a)
-
-register_is : (c r : ℕ) → is_register c r ≡ true → (c < 8) × (r < 8)
-register_is c r e = let p = and_parts (ltb c 8) (ltb r 8) e in (ltb-true c 8 p.0, ltb-true r 8 p.1)
 
 -- the checks of a free, from the last on
 abbrev freed : State → Capability → Effect
@@ -175,15 +167,12 @@ module _ (m : Group) (K : Fixed) (s t : State) (b c : Ledger) (v : Inv K s b) (v
       (w.provenance, _, w.live.mine x (omega arith) (omega arith), w.live.granted, d.reg_side (slot n r) a e₀ _ _ w.recorded w.live.granted ∙ ap m (slot_row n r hr) ∙ y)
 
   two_open : (w w' : Sweep) → w ≡ w' → Match (Agrees Call.OpenSweep) (open_rule s w) (open_rule t w')
-  two_open Idle Idle e = two_unless _ _ _ (ap (λ (l : List Run). ltb 0 (length l)) o.waiting) λ _. m_ok (ap length o.waiting, core_paint m K s t b c v v' d d' o)
-  two_open Idle (Open p) e = cc
-  two_open (Open p) Idle e = cc
+  two_open Idle Idle e = two_unless _ _ _ (λ i. ltb 0 (length (o.same i).waiting)) λ _. m_ok ((λ i. length (o.same i).waiting), core_paint m K s t b c v v' d d' o)
   two_open (Open p) (Open p') e = m_no
+  two_open _ _ e = cc
 
   two_step : (k : ℕ) (w w' : Sweep) → w ≡ w' → s.sweep ≡ w → t.sweep ≡ w' → Match (Agrees (Call.Step k)) (stepped K.memory_granules s k w) (stepped K.memory_granules t k w')
   two_step k Idle Idle e q q' = m_no
-  two_step k Idle (Open p) e q q' = cc
-  two_step k (Open p) Idle e q q' = cc
   two_step k (Open p) (Open p') e q q' =
       let z : p ≡ p' = open_same e in
       subst (λ (x : ℕ). Match (Agrees (Call.Step k)) (stepped K.memory_granules s k (Open p)) (stepped K.memory_granules t k (Open x))) z
@@ -195,12 +184,12 @@ module _ (m : Group) (K : Fixed) (s t : State) (b c : Ledger) (v : Inv K s b) (v
             (inv_pass K s b v p _ q (omega arith)) (inv_pass K t c v' p _ (q' ∙ ap Open (sym z)) (omega arith)) (tidy_pass m K s b v d p _) (tidy_pass m K t c v' d' p _) (core_pass m K s t b c v v' d d' o p (K.memory_granules - p)),
       ))
       (λ _. m_ok (refl, core_pass m K s t b c v v' d d' o p k)))
+  two_step k _ _ e q q' = cc
 
   two_shut : (w w' : Sweep) → w ≡ w' → Match (Agrees Call.Shut) (shut_rule s w) (shut_rule t w')
   two_shut Idle Idle e = m_no
-  two_shut Idle (Open p) e = cc
-  two_shut (Open p) Idle e = cc
-  two_shut (Open p) (Open p') e = m_ok (ap length o.painted, core_shut m K s t b c v v' d d' o)
+  two_shut (Open p) (Open p') e = m_ok ((λ i. length (o.same i).painted), core_shut m K s t b c v v' d d' o)
+  two_shut _ _ e = cc
 
   -- the group's own frees, answered alike
   two_free : (n r : ℕ) {x y : Effect} → View K s (Call.Free n r) x → View K t (Call.Free n r) y → outcome x ≡ outcome y → Match (Agrees (Call.Free n r)) x y
@@ -209,7 +198,7 @@ module _ (m : Group) (K : Fixed) (s t : State) (b c : Ledger) (v : Inv K s b) (v
   two_free n r (v_free a hc hr at own al wh w) v_no e = cc
   two_free n r (v_free a hc hr at own al wh w) (v_free a' hc' hr' at' own' al' wh' w') e =
       let z : base_of a ≡ base_of a' = ok_same e in
-      m_ok (z, core_wait m K s t b c v v' d d' o _ _ (λ i. record { start = z i / 16; length = run_length (o.cells i) (z i / 16) }))
+      m_ok (z, core_wait m K s t b c v v' d d' o _ _ (λ i. record { start = z i / 16; length = run_length (o.same i).cells (z i / 16) }))
 
   -- a grant, by what the allocator does
   module _ (n r k : ℕ) (hn : n < 8) (hr : r < 8) (pos : 0 < k) (same : K.memory_granules ≡ K.allocator_granules) where
@@ -235,9 +224,9 @@ module _ (m : Group) (K : Fixed) (s t : State) (b c : Ledger) (v : Inv K s b) (v
     two_grant : Comes (allocating K.place s.cells s.mark K.most k) (allocating K.place t.cells t.mark K.most k)
     two_grant =
         subst (λ (q : Bool). Comes (allocating K.place s.cells s.mark K.most k) (cond (eqb k 0) (denied_by t.cells t.mark A.BadNum) (cond q (denied_by t.cells t.mark A.Allowance) (placed t.cells t.mark k (K.place t.cells t.mark k)))))
-        (λ i. ltb K.most (taken_in (o.cells i) + k))
+        (λ i. ltb K.most (taken_in (o.same i).cells + k))
         (subst (λ (q : Option (ℕ × ℕ)). Comes (allocating K.place s.cells s.mark K.most k) (cond (eqb k 0) (denied_by t.cells t.mark A.BadNum) (cond (ltb K.most (taken_in s.cells + k)) (denied_by t.cells t.mark A.Allowance) (placed t.cells t.mark k q))))
-        (λ i. K.place (o.cells i) (o.mark i) k)
+        (λ i. K.place (o.same i).cells (o.same i).mark k)
         (either (eqb k 0) _ _ _ _ m_no (either (ltb K.most (taken_in s.cells + k)) _ _ _ _ m_no (at_place (K.place s.cells s.mark k) refl))))
 
   two_frees : (n r : ℕ) (y : Bool) → m n ≡ y → (m n ≡ true → outcome (perform K s (Call.Free n r)) ≡ outcome (perform K t (Call.Free n r)))
@@ -245,10 +234,10 @@ module _ (m : Group) (K : Fixed) (s t : State) (b c : Ledger) (v : Inv K s b) (v
   two_frees n r true y own = two_free n r (view K s (Call.Free n r)) (view K t (Call.Free n r)) (own y)
   two_frees n r false y own = two_unless _ _ _ refl λ num. two_held _ _ (regs_same n r (register_is n r num).1 y) λ a e e'.
       two_unless (allows (permissions_of a) P.Own) _ F.Perm {d = if_whole s a} {e = if_whole t a} refl λ own'.
-      two_unless (is_whole s a) (is_whole t a) F.NotWhole {d = if_new s a} {e = if_new t a} (λ i. eqb (base_of a % 16) 0 && eqb (length_of a) (16 * run_length (o.cells i) (base_of a / 16))) λ whole.
-      two_unless (not (begins_at s.waiting (base_of a / 16))) _ (F.Quarantine Q.Freed) {d = if_room s a} {e = if_room t a} (λ i. not (begins_at (o.waiting i) (base_of a / 16))) λ wait.
-      two_unless (ltb (length s.waiting + length s.painted) most_runs) _ (F.Quarantine Q.QFull) {d = freed s a} {e = freed t a} (λ i. ltb (length (o.waiting i) + length (o.painted i)) most_runs) λ full.
-      m_ok (refl, core_wait m K s t b c v v' d d' o _ _ (λ i. record { start = base_of a / 16; length = run_length (o.cells i) (base_of a / 16) }))
+      two_unless (is_whole s a) (is_whole t a) F.NotWhole {d = if_new s a} {e = if_new t a} (λ i. eqb (base_of a % 16) 0 && eqb (length_of a) (16 * run_length (o.same i).cells (base_of a / 16))) λ whole.
+      two_unless (not (begins_at s.waiting (base_of a / 16))) _ (F.Quarantine Q.Freed) {d = if_room s a} {e = if_room t a} (λ i. not (begins_at (o.same i).waiting (base_of a / 16))) λ wait.
+      two_unless (ltb (length s.waiting + length s.painted) most_runs) _ (F.Quarantine Q.QFull) {d = freed s a} {e = freed t a} (λ i. ltb (length (o.same i).waiting + length (o.same i).painted) most_runs) λ full.
+      m_ok (refl, core_wait m K s t b c v v' d d' o _ _ (λ i. record { start = base_of a / 16; length = run_length (o.same i).cells (base_of a / 16) }))
 
   two_calls : (x : Call) → is_struck m x ≡ false → GivesApart m x → (is_ours m x ≡ true → outcome (perform K s x) ≡ outcome (perform K t x)) → Match (Agrees x) (perform K s x) (perform K t x)
   two_calls (Call.Grant n r k) st gift own = two_unless _ _ _ refl λ num. two_unless _ _ _ refl λ same.
@@ -310,7 +299,7 @@ module _ (m : Group) (K : Fixed) (s t : State) (b c : Ledger) (v : Inv K s b) (v
       let f₀ = sym (reg_slot t n r q.1) ∙ e' in
       two_memory _ _ {k = getc_granule s n u} {l = getc_granule t n u} (λ i. cond (ltb g (l_tags i)) (Ok (alike i)) (Err T.Bounds)) λ y _.
       two_unless _ _ _ refl λ tag.
-      two_loaded s t n u (capability_of y.numbers.base y.numbers.top y.numbers.permissions) o.sweep o.painted λ a₂. (
+      two_loaded s t n u (capability_of y.numbers.base y.numbers.top y.numbers.permissions) (λ i. (o.same i).sweep) (λ i. (o.same i).painted) λ a₂. (
         refl,
         subst (λ (j : Option Entry). Core m (with_register s n u (Some a₂)) (with_register t n u (Some a₂)) (noted_load b j off (slot n u)) (noted_load c (c.registers (slot n r)) off (slot n u))) (sym (v.regs (slot n r) a e₀).recorded)
             (subst (λ (j : Option Entry). Core m (with_register s n u (Some a₂)) (with_register t n u (Some a₂)) (with_entry b (slot n u) (b.granules ((base_of a + off) / 16))) (noted_load c j off (slot n u))) (sym (v'.regs (slot n r) a f₀).recorded)
@@ -324,9 +313,9 @@ module _ (m : Group) (K : Fixed) (s t : State) (b c : Ledger) (v : Inv K s b) (v
       (m_ok (refl, core_reg m K s t b c v v' d d' o n' u w.0 w.1 (Some a) _ _))
   two_calls (Call.Drop n r) st gift own = two_unless _ _ _ refl λ num.
       let q = register_is n r num in m_ok (refl, core_reg m K s t b c v v' d d' o n r q.0 q.1 None _ _)
-  two_calls Call.OpenSweep st gift own = two_open s.sweep t.sweep o.sweep
-  two_calls (Call.Step k) st gift own = two_unless _ _ _ refl λ _. two_step k s.sweep t.sweep o.sweep refl refl
-  two_calls Call.Shut st gift own = two_shut s.sweep t.sweep o.sweep
+  two_calls Call.OpenSweep st gift own = two_open s.sweep t.sweep (λ i. (o.same i).sweep)
+  two_calls (Call.Step k) st gift own = two_unless _ _ _ refl λ _. two_step k s.sweep t.sweep (λ i. (o.same i).sweep) refl refl
+  two_calls Call.Shut st gift own = two_shut s.sweep t.sweep (λ i. (o.same i).sweep)
 
   matched : (x : Call) {y z : Effect} → Match (Agrees x) y z → (outcome y ≡ outcome z) × Core m (state_after s y) (state_after t z) (note b x (outcome y)) (note c x (outcome z))
   matched x m_no = (refl, o)

@@ -21,7 +21,7 @@ use Rattle.history.proofs.Changes.{painted_released}
 use Rattle.history.proofs.Laws.{get_taken, made_base}
 use Rattle.history.proofs.Live.{among_in, in_among, live_taken}
 use Rattle.history.proofs.Steps.{inv_fresh, inv_run, inv_step}
-use Rattle.history.proofs.View.{View, v_no, v_grant, v_free, v_derive, v_getb, v_putb, v_putc, v_getc, v_give, v_drop, v_open, v_pass, v_end, v_shut, view}
+use Rattle.history.proofs.View.{View, v_no, v_grant, v_free, v_open, v_pass, v_end, v_shut, view}
 
 -- histories
 

@@ -110,7 +110,7 @@ module _ (K : Fixed) (s : State) (c r n : ℕ) (hc : c < 8) (hr : r < 8) (pos : 
       (either (ltb K.most (taken_in cs + n)) (denied_by cs m A.Allowance) (placed cs m n o) v_no (at_place o refl))
 
 -- what the ranges of operands tell
-register_is : (c r : ℕ) → is_register c r ≡ true → (c < 8) × (r < 8)
+pub register_is : (c r : ℕ) → is_register c r ≡ true → (c < 8) × (r < 8)
 register_is c r e = let p = and_parts (ltb c 8) (ltb r 8) e in (ltb-true c 8 p.0, ltb-true r 8 p.1)
 
 derived_is : (K : Fixed) (s : State) (c r t lo len p : ℕ) (a : Capability) → c < 8 → r < 8 → t < 8 → register_at s c t ≡ Some a → (o : Option Capability) → derived a lo len p ≡ o
