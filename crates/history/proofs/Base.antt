@@ -1,5 +1,6 @@
 -- Small facts on tests, options and intervals.
-use Rattle.std.proofs.Common.{◌≡◌, ℕ, zero, suc, ◌+◌, ◌<◌, ◌≤◌, Bool, true, ◌&&◌, ltb, leb, ◌⊎◌, List, [], ◌∷◌, ◌++◌, get_or, replicate, Some, Ok, Result, refl, inl, inr, arith}
+use Rattle.std.proofs.Common.{◌≡◌, ℕ, ◌+◌, ◌<◌, ◌≤◌, Bool, true, ◌&&◌, ltb, leb, ◌⊎◌, List, [], ◌∷◌, ◌++◌, get_or, replicate, Some, Ok, Result, inl, inr, arith, rules}
+use Rattle.std.proofs.lemmas.List.{places}
 use Rattle.std.proofs.lemmas.Bool.Decides.{nat_tests}
 use Rattle.quarantine.specs.declared.run.Run.{Run}
 
@@ -10,9 +11,7 @@ pub ok_same : {X E : Type 0} {x y : X} → ◌≡◌ {A = Result X E} (Ok x) (Ok
 ok_same e = cc
 
 pub none_at : {X : Type 0} (n i : ℕ) (a : X) → get_or (replicate n a) i a ≡ a
-none_at zero i a = refl
-none_at (suc n) zero a = refl
-none_at (suc n) (suc i) a = none_at n i a
+none_at n i a = search (rules, places)
 
 -- a place in the n from a on
 abbrev pub within : ℕ → ℕ → ℕ → Bool
@@ -20,6 +19,9 @@ within a n i = leb a i && ltb i (a + n)
 
 pub within_true : (a n g : ℕ) → within a n g ≡ true → (a ≤ g) × (g < a + n)
 within_true a n g e = grind (arith, nat_tests)
+
+pub within_is : (a n g : ℕ) → a ≤ g → g < a + n → within a n g ≡ true
+within_is a n g lo hi = grind (arith, nat_tests)
 
 -- a run is one of several
 abbrev pub Among : Run → List Run → Type 0

@@ -17,9 +17,10 @@ use Rattle.history.specs.Ledgers.{Entry, Ledger, put_at, slot, with_entry, with_
 use Rattle.history.proofs.Base.{within}
 use Rattle.history.proofs.Changes.{painted_wiped_bytes, painted_wiped_tags}
 use Rattle.history.proofs.Core.{Core}
+use Rattle.history.proofs.Places.{get_set}
 use Rattle.history.proofs.Rooms.{Room, span_in}
 use Rattle.history.proofs.Invariant.{Inv}
-use Rattle.history.proofs.Laws.{get_image, get_set, get_swept, reg_emptied, reg_put}
+use Rattle.history.proofs.Laws.{get_image, get_swept, reg_emptied, reg_put}
 use Rattle.history.proofs.Tidy.{Tidy}
 
 module _ (m : Group) (K : Fixed) (s t : State) (b c : Ledger) (v : Inv K s b) (v' : Inv K t c) (d : Tidy m s b) (d' : Tidy m t c) (o : Core m s t b c) where

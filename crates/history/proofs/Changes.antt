@@ -20,10 +20,12 @@ use Rattle.quarantine.specs.declared.run.Run.{Run}
 use Rattle.quarantine.specs.declared.sweep.Sweep.{Sweep}
 use Rattle.quarantine.specs.declared.sweep.Sweep.TheVariants.{Idle, Open}
 use Rattle.history.specs.Ledgers.{Entry, Grant, Ledger, put_at, slot, with_entry, with_grant, with_granule}
+use Rattle.history.proofs.Authorities.{made_numbers}
 use Rattle.history.proofs.Base.{Among, among_append, among_left, among_right, some_same, within, within_true}
-use Rattle.history.proofs.Laws.{InsideAll, WholeRun, base_at, capability_at, get_released, get_set, get_swept, get_taken, get_wiped_bytes, get_wiped_tags, length_image, length_released, length_swept, length_taken, length_wiped_bytes, length_wiped_tags, made_base, read_image, read_other, read_same, read_set, reg, reg_emptied, reg_put, run_end, shaped_emptied, shaped_put}
+use Rattle.history.proofs.Laws.{InsideAll, WholeRun, base_at, capability_at, get_released, get_swept, get_taken, get_wiped_bytes, get_wiped_tags, length_image, length_released, length_swept, length_taken, length_wiped_bytes, length_wiped_tags, read_image, read_other, read_same, read_set, reg, reg_emptied, reg_put, run_end, shaped_emptied, shaped_put}
 use Rattle.history.proofs.Invariant.{Inv, Live, Sound}
 use Rattle.history.proofs.Live.{among_in, begins_append, begins_in, disjoint, grown, later, live_bounds, live_grown, live_kept, live_taken, more, once_left, once_more_of, once_nil, once_right, room_free, sound_base, sound_grown, sound_kept, sound_new, sound_span, whole_run}
+use Rattle.history.proofs.Places.{get_set}
 
 -- bounds inside the largest memory make a capability with all permissions
 pub whole_made : (x y : ℕ) → x < y → y ≤ 16384 → (w : Capability) × (capability_of x y all_permissions ≡ Some w)
@@ -353,7 +355,7 @@ module _ (K : Fixed) (s : State) (b : Ledger) (v : Inv K s b) (c r n at next : �
   there j = reg_put s.registers c r j (Some w) v.shaped hc hr
 
   spans : (base_of w ≡ 16 * at) × (top_of w ≡ 16 * at + 16 * n)
-  spans = let m = made_base _ _ _ w made in (m.0, m.1)
+  spans = let m = made_numbers _ _ _ w made in (m.0, m.1)
 
   abbrev Live' : ℕ → Run → Type 0
   Live' k x = Live (grown s.cells b.latest b.grants at n b.next c w made pos room) (later s.cells b.latest b.grants at n b.next c w made pos room) (more s.cells b.latest b.grants at n b.next c w made pos room) k x

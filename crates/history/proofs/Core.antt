@@ -12,7 +12,8 @@ use Rattle.history.specs.Isolation.{Group, GivesApart, Outside, is_struck}
 use Rattle.history.specs.Ledgers.{Entry, Grant, Ledger, loaded, note, slot, stored, with_entry, with_granule}
 use Rattle.history.proofs.Base.{within, within_true}
 use Rattle.history.proofs.Invariant.{Inv}
-use Rattle.history.proofs.Laws.{get_image, get_set, reg, reg_put, reg_slot, slot_row}
+use Rattle.history.proofs.Laws.{get_image, reg, reg_put, reg_slot, slot_row}
+use Rattle.history.proofs.Places.{get_set}
 use Rattle.history.proofs.Steps.{reg_top}
 use Rattle.history.proofs.Tidy.{Tidy, reg_owner}
 use Rattle.history.proofs.View.{View, v_no, v_derive, v_getb, v_putb, v_putc, v_getc, v_give, v_drop}

@@ -28,12 +28,13 @@ use Rattle.quarantine.specs.declared.sweep.Sweep.{Sweep}
 use Rattle.quarantine.specs.declared.sweep.Sweep.TheVariants.{Idle, Open}
 use Rattle.history.specs.Isolation.{Group, GivesApart, Outside, is_ours, is_struck}
 use Rattle.history.specs.Ledgers.{Entry, Ledger, granted as noted_grant, loaded as noted_load, note, noted, slot, stored, with_entry, with_granule}
+use Rattle.history.proofs.Authorities.{made_numbers}
 use Rattle.history.proofs.Base.{ok_same, some_same}
 use Rattle.history.proofs.Both.{core_byte, core_cap, core_end, core_grant, core_paint, core_pass, core_reg, core_shut, core_wait, granule_alike}
 use Rattle.history.proofs.Changes.{inv_pass, open_same, whole_made}
 use Rattle.history.proofs.Core.{Core}
 use Rattle.history.proofs.Invariant.{Inv}
-use Rattle.history.proofs.Laws.{made_base, reg_slot, slot_row}
+use Rattle.history.proofs.Laws.{reg_slot, slot_row}
 use Rattle.history.proofs.Live.{sound_span}
 use Rattle.history.proofs.Rooms.{room}
 use Rattle.history.proofs.Steps.{reg_top}
@@ -214,7 +215,7 @@ module _ (m : Group) (K : Fixed) (s t : State) (b c : Ledger) (v : Inv K s b) (v
     at_place (Some x) e =
         let rm = room s.cells x.0 k (K.lawful.answered s.cells s.mark k x.0 x.1 pos e) in
         let w = whole_made (16 * x.0) (16 * x.0 + 16 * k) (omega arith) (omega (arith, rm.0, v.l_cells, same, v.sized)) in
-        let z = made_base _ _ _ w.0 w.1 in
+        let z = made_numbers _ _ _ w.0 w.1 in
         m_ok (
           refl,
           subst (λ (q : Option Capability). Core m (with_register (with_map s (paste s.cells x.0 (run_of k) k) x.1) n r q) (with_register (with_map t (paste t.cells x.0 (run_of k) k) x.1) n r q) (noted_grant b n r q) (noted_grant c n r q)) (sym w.1)

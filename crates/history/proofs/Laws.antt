@@ -1,15 +1,15 @@
 -- What each change of the model leaves, place by place.
-use Rattle.std.proofs.Common.{◌≡◌, ℕ, zero, suc, ◌+◌, ◌-◌, ◌*◌, ◌/◌, ◌%◌, ◌<◌, ◌≤◌, Bool, true, false, cond, ◌&&◌, ◌||◌, eqb, ltb, leb, ◌≢◌, List, [], ◌∷◌, map, length, get_or, drop, set, replicate, is_ok, Some, None, Option, sym, refl, ap, ◌∙◌, inl, inr, arith}
+use Rattle.std.proofs.Common.{◌≡◌, ℕ, zero, suc, ◌+◌, ◌-◌, ◌*◌, ◌/◌, ◌%◌, ◌<◌, ◌≤◌, Bool, true, false, cond, ◌&&◌, ◌||◌, eqb, ltb, ◌≢◌, List, [], ◌∷◌, map, length, get_or, drop, set, replicate, is_ok, Some, None, Option, sym, refl, ap, ◌∙◌, inl, inr, arith, rules}
 use lib.Seq.{paste}
 use Rattle.std.proofs.lemmas.List.Edits.{length-paste}
-use Rattle.std.proofs.lemmas.List.{get_or_default, get_or-drop, get_or-map, get_or_past, get_or-replicate, get_or-set_other, get_or-set_same, length-map, length-set}
-use Rattle.std.proofs.lemmas.Bool.{and_from, cases_Bool, cases_eq, cases_lt, cond-false, cond-true, eq-eqb, le-leb, lt-ltb, ne_eqb, or_left, or_right}
+use Rattle.std.proofs.lemmas.List.{get_or_default, get_or-drop, get_or_past, get_or-replicate, get_or-set_other, get_or-set_same, length-map, length-set, places}
+use Rattle.std.proofs.lemmas.Bool.{cases_Bool, cases_eq, cases_lt, cond-false, cond-true, eq-eqb, lt-ltb, ne_eqb, or_right}
 use Rattle.std.proofs.lemmas.Bool.Decides.{nat_tests}
 use Rattle.allocator.specs.Allocators.{Allocation, releasing}
 use Rattle.allocator.specs.declared.cell.Cell.{Cell}
 use Rattle.allocator.specs.declared.cell.Cell.TheVariants.{Free, First, Rest}
 use Rattle.allocator.specs.Maps.{is_first, rests_in_front, run_length, run_of}
-use Rattle.authority.specs.Capabilities.{Authority, base_of, top_of, permissions_of, capability_of, meet_authority}
+use Rattle.authority.specs.Capabilities.{Authority, base_of, top_of, capability_of, meet_authority}
 use Rattle.authority.specs.Images.{image_of, word_at}
 use Rattle.authority.specs.PermissionsMeet.{permissions_from}
 use Rattle.authority.specs.declared.capability.Capability.{Capability}
@@ -24,8 +24,8 @@ use Rattle.quarantine.specs.declared.run.Run.{Run}
 use Rattle.machine.specs.declared.registers.Registers.{Registers}
 use Rattle.history.specs.Ledgers.{slot}
 use Rattle.history.specs.Provenance.{LiesWithin}
-use Rattle.history.proofs.Base.{Among, within, within_true, none_at}
-use Rattle.history.proofs.Places.{eqb_same, set_place, paste_place, fill_place, fill_length, within_is, within_below, within_above, run_length_of, run_place, rests_rest, rests_end, rests_least}
+use Rattle.history.proofs.Base.{Among, none_at, within, within_is, within_true}
+use Rattle.history.proofs.Places.{get_set, paste_place, fill_place, fill_length, run_length_of, run_place, rests_rest, rests_end, rests_least}
 use Rattle.history.proofs.Authorities.{meet_below, meet_inside, meet_self, made_numbers, over_authority}
 
 -- registers by one number
@@ -58,7 +58,7 @@ pub reg_put : (rs : Registers) (c r j : ℕ) (o : Option Capability) → Shaped 
 reg_put rs c r j o sh hc hr = elim (cases_eq (j / 8) c) [
   | inl e ↦
       ap (λ (x : Compartment). get_or x.registers (j % 8) None) (ap (λ (k : ℕ). get_or (set cs c new) k empty_compartment) e ∙ get_or-set_same cs c new empty_compartment (omega (arith, sh.rows)))
-      ∙ (set_place row r (j % 8) o None (omega (arith, row_length rs c sh hc))
+      ∙ (get_set row r (j % 8) o None (omega (arith, row_length rs c sh hc))
       ∙ (λ i. cond (same e i) o (get_or (get_or cs (sym e i) empty_compartment).registers (j % 8) None)))
   | inr n ↦
       ap (λ (x : Compartment). get_or x.registers (j % 8) None) (get_or-set_other cs c (j / 8) new empty_compartment n)
@@ -75,7 +75,7 @@ reg_put rs c r j o sh hc hr = elim (cases_eq (j / 8) c) [
     new = record { registers = set row r o }
 
     same : j / 8 ≡ c → eqb (j % 8) r ≡ eqb j (slot c r)
-    same e = eqb_same (j % 8) r j (slot c r) (λ q. omega arith) (λ q. omega arith)
+    same e = grind (arith, nat_tests)
 
 pub shaped_put : (rs : Registers) (c r : ℕ) (o : Option Capability) → Shaped rs → c < 8 → r < 8 → Shaped (with_register_in rs c r o)
 shaped_put rs c r o sh hc hr = record {
@@ -94,10 +94,9 @@ shaped_put rs c r o sh hc hr = record {
     new = record { registers = set row r o }
 
 map_place : {X Y : Type 0} (f : X → Y) (xs : List X) (i : ℕ) (d : X) (e : Y) → f d ≡ e → get_or (map f xs) i e ≡ f (get_or xs i d)
-map_place f xs i d e h = elim (cases_lt i (length xs)) [
-  | inl k ↦ get_or-map f xs i d e k
-  | inr k ↦ get_or_past (map f xs) i e (let l = length-map xs f in omega arith) ∙ (sym h ∙ ap f (sym (get_or_past xs i d k)))
-]
+map_place f [] i d e h = sym h
+map_place f (x ∷ xs) zero d e h = refl
+map_place f (x ∷ xs) (suc i) d e h = map_place f xs i d e h
 
 pub reg_emptied : (qs : List Run) (rs : Registers) (j : ℕ) → reg_in (emptied_registers qs rs) j ≡ survivor qs (reg_in rs j)
 reg_emptied qs rs j =
@@ -122,10 +121,7 @@ shaped_fresh = record {
   columns = λ c h. ap (λ (x : Compartment). length x.registers) (get_or-replicate 8 c empty_compartment (record { registers = [] }) h);
 }
 
--- one place, and an image
-
-pub get_set : {X : Type 0} (l : List X) (i j : ℕ) (v d : X) → i < length l → get_or (set l i v) j d ≡ cond (eqb j i) v (get_or l j d)
-get_set l i j v d h = set_place l i j v d h
+-- an image
 
 pub length_image : (bs : List ℕ) (g : ℕ) (c : Capability) → 16 * g + 16 ≤ length bs → length (with_image bs g (Some c)) ≡ length bs
 length_image bs g c h = length-paste bs (16 * g) (image_of c) 16 h (omega arith)
@@ -137,10 +133,6 @@ get_image bs g c i h = paste_place bs (image_of c) (16 * g) 16 i 0 h refl
 
 abbrev pub capability_at : List ℕ → ℕ → Option Capability
 capability_at bs g = capability_of (word_at bs (16 * g)) (word_at bs (16 * g + 4)) (get_or bs (16 * g + 8) 0)
-
--- three numbers that make a capability are its own
-pub made_base : (x y z : ℕ) (c : Capability) → capability_of x y z ≡ Some c → (base_of c ≡ x) × (top_of c ≡ y) × (permissions_of c ≡ z)
-made_base x y z c e = made_numbers x y z c e
 
 pub base_at : (bs : List ℕ) (g : ℕ) (c : Capability) → capability_at bs g ≡ Some c → word_at bs (16 * g) ≡ base_of c
 base_at bs g c e = sym (made_numbers (word_at bs (16 * g)) (word_at bs (16 * g + 4)) (get_or bs (16 * g + 8) 0) c e).0
@@ -160,10 +152,7 @@ pub read_image : (bs : List ℕ) (g : ℕ) (c : Capability) → 16 * g + 16 ≤ 
 read_image bs g c h = (λ i. capability_of (p i) (q i) (r i)) ∙ image_reads_back c
   where
     at : (j i : ℕ) → i ≡ 16 * g + j → j < 16 → get_or (with_image bs g (Some c)) i 0 ≡ get_or (image_of c) j 0
-    at j i e lt =
-        get_image bs g c i h
-        ∙ (cond-true (within (16 * g) 16 i) _ _ (within_is (16 * g) 16 i (omega arith) (omega arith))
-        ∙ (let d : i - 16 * g ≡ j = omega arith in ap (λ (n : ℕ). get_or (image_of c) n 0) d))
+    at j i e lt = let d : i - 16 * g ≡ j = omega arith in grind (arith, nat_tests, get_image)
 
     p : word_at (with_image bs g (Some c)) (16 * g) ≡ word_at (image_of c) 0
     p = cc (at 0 (16 * g) (omega arith) (omega arith), at 1 (16 * g + 1) (omega arith) (omega arith), at 2 (16 * g + 2) (omega arith) (omega arith), at 3 (16 * g + 3) (omega arith) (omega arith))
@@ -178,10 +167,7 @@ pub read_other : (bs : List ℕ) (g : ℕ) (c : Capability) (g' : ℕ) → 16 * 
 read_other bs g c g' h ne = (read_same (with_image bs g (Some c)) bs g' (λ i lo hi. get_image bs g c i h ∙ cond-false (within (16 * g) 16 i) _ _ (apart i lo hi))).0
   where
     apart : (i : ℕ) → 16 * g' ≤ i → i < 16 * g' + 16 → within (16 * g) 16 i ≡ false
-    apart i lo hi = elim (cases_lt i (16 * g)) [
-      | inl k ↦ within_below (16 * g) 16 i k
-      | inr k ↦ within_above (16 * g) 16 i (elim (cases_lt i (16 * g + 16)) [ inl m ↦ absurd (ne (omega arith)) | inr m ↦ m ])
-    ]
+    apart i lo hi = grind (arith, nat_tests)
 
 pub read_set : (bs : List ℕ) (a v g : ℕ) → a < length bs → g ≢ a / 16 → capability_at (set bs a v) g ≡ capability_at bs g
 read_set bs a v g h ne = (read_same (set bs a v) bs g (λ i lo hi. get_or-set_other bs a i v 0 (λ e. ne (omega arith)))).0
@@ -212,12 +198,7 @@ pub length_taken : (cs : List Cell) (b n : ℕ) → 0 < n → b + n ≤ length c
 length_taken cs b n z h = let e = run_length_of n in length-paste cs b (run_of n) n h (omega arith)
 
 pub get_taken : (cs : List Cell) (b n g : ℕ) → 0 < n → b + n ≤ length cs → get_or (paste cs b (run_of n) n) g Free ≡ cond (within b n g) (cond (eqb g b) First Rest) (get_or cs g Free)
-get_taken cs b n g z h = paste_place cs (run_of n) b n g Free h (run_length_of n) ∙ (elim (cases_Bool (within b n g)) [
-  | inl y ↦ let w = within_true b n g y in cond-true (within b n g) _ _ y
-      ∙ (run_place n (g - b) Free (omega arith)
-      ∙ (ap (λ (t : Bool). cond t First Rest) (eqb_same (g - b) 0 g b (λ q. omega arith) (λ q. omega arith)) ∙ sym (cond-true (within b n g) _ _ y)))
-  | inr y ↦ cond-false (within b n g) _ _ y ∙ sym (cond-false (within b n g) _ _ y)
-])
+get_taken cs b n g z h = grind (arith, nat_tests, paste_place, run_length_of, run_place)
 
 -- what a run's length tells
 
@@ -226,9 +207,8 @@ unfolding run_length
 run_first cs b h = go (get_or cs b Free) h
   where
     go : (x : Cell) → 0 < cond (is_first x) (suc (rests_in_front (drop (b + 1) cs))) 0 → x ≡ First
-    go Free h = absurd (let f : ⊥ = omega arith in f)
     go First h = refl
-    go Rest h = absurd (let f : ⊥ = omega arith in f)
+    go _ h = absurd (omega arith)
 
 -- a run's length where it has a first
 run_start : (cs : List Cell) (b : ℕ) → get_or cs b Free ≡ First → run_length cs b ≡ suc (rests_in_front (drop (b + 1) cs))
@@ -280,10 +260,7 @@ swept_one rs bs q g ts = elim (cases_eq g q) [
 ]
   where
     cleared : get_or (set ts q false) q false ≡ false
-    cleared = elim (cases_lt q (length ts)) [
-      | inl h ↦ get_or-set_same ts q false false h
-      | inr h ↦ get_or_past (set ts q false) q false (let l = length-set ts q false in omega arith)
-    ]
+    cleared = search (rules, places)
 
     here : (t x : Bool) → get_or ts q false ≡ t → get_or (cond (t && x) (set ts q false) ts) q false ≡ cond x false t
     here true true e = cleared
@@ -296,8 +273,7 @@ swept_one rs bs q g ts = elim (cases_eq g q) [
     other n false = refl
 
 swept_more : (p k g : ℕ) (x y : Bool) → cond (eqb g (p + k) && x) false (cond (within p k g && x) false y) ≡ cond (within p (suc k) g && x) false y
-swept_more p k g true y = grind (arith, nat_tests)
-swept_more p k g false y = grind (arith, nat_tests)
+swept_more p k g x y = grind (arith, nat_tests)
 
 pub get_swept : (rs : List Run) (bs : List ℕ) (p k g : ℕ) (ts : List Bool) → get_or (swept_tags rs bs p k ts) g false ≡ cond (within p k g && in_runs rs (word_at bs (16 * g) / 16)) false (get_or ts g false)
 get_swept rs bs p zero g ts = sym (cond-false (within p zero g && in_runs rs (word_at bs (16 * g) / 16)) _ _ (none p g (in_runs rs (word_at bs (16 * g) / 16))))
@@ -316,13 +292,12 @@ InsideAll all rs = (r : Run) → Among r rs → (0 < r.length) × (r.start + r.l
 
 -- a run inside is wiped
 wipes : (b n all : ℕ) → 0 < n → b + n ≤ all → is_ok (wipe_answer b n all) ≡ true
-wipes b n all z h = ap is_ok (cond-true (ltb b all && leb (b + n) all) _ _ (and_from (ltb b all) (leb (b + n) all) (lt-ltb b all (omega arith)) (le-leb (b + n) all h)))
+wipes b n all z h = grind (arith, nat_tests)
 
 -- one value over two stretches
 two_ways : {X : Type 0} (a b : Bool) (v x : X) → cond b v (cond a v x) ≡ cond (a || b) v x
 two_ways true true v x = refl
-two_ways true false v x = refl
-two_ways false b v x = refl
+two_ways _ b v x = refl
 
 pub length_wiped_bytes : (all : ℕ) (rs : List Run) (bs : List ℕ) → length bs ≡ 16 * all → InsideAll all rs → length (wiped_bytes all rs bs) ≡ 16 * all
 length_wiped_bytes all [] bs l h = l
@@ -344,13 +319,7 @@ get_wiped_bytes all (r ∷ rs) bs i l h =
     ∙ two_ways (in_run r (i / 16)) (in_runs rs (i / 16)) 0 (get_or bs i 0)))
   where
     by_granule : (b n i : ℕ) → within (16 * b) (16 * n) i ≡ within b n (i / 16)
-    by_granule b n i = elim (cases_lt i (16 * b)) [
-      | inl k ↦ within_below (16 * b) (16 * n) i k ∙ sym (within_below b n (i / 16) (omega arith))
-      | inr k ↦ elim (cases_lt i (16 * b + 16 * n)) [
-        | inl m ↦ within_is (16 * b) (16 * n) i k m ∙ sym (within_is b n (i / 16) (omega arith) (omega arith))
-        | inr m ↦ within_above (16 * b) (16 * n) i m ∙ sym (within_above b n (i / 16) (omega arith))
-      ]
-    ]
+    by_granule b n i = grind (arith, nat_tests)
 
 pub length_wiped_tags : (rs : List Run) (ts : List Bool) → InsideAll (length ts) rs → length (wiped_tags rs ts) ≡ length ts
 length_wiped_tags [] ts h = refl
@@ -384,10 +353,10 @@ Disjoint [] = Unit {0}
 Disjoint (r ∷ rs) = ((g : ℕ) → in_run r g ≡ true → in_runs rs g ≡ false) × Disjoint rs
 
 -- a granule in one of the runs
-in_among : (rs : List Run) (r : Run) (g : ℕ) → Among r rs → in_run r g ≡ true → in_runs rs g ≡ true
-in_among [] r g a h = absurd a
-in_among (x ∷ rs) r g (inl e) h = or_left (in_run x g) (in_runs rs g) (ap (λ (y : Run). in_run y g) (sym e) ∙ h)
-in_among (x ∷ rs) r g (inr a) h = or_right (in_run x g) (in_runs rs g) (in_among rs r g a h)
+pub in_among : (rs : List Run) (r : Run) (g : ℕ) → Among r rs → r.start ≤ g → g < r.start + r.length → in_runs rs g ≡ true
+in_among [] r g a lo hi = absurd a
+in_among (x ∷ rs) r g (inl e) lo hi = let a : r.start ≡ x.start = cc in let l : r.length ≡ x.length = cc in grind (arith, nat_tests)
+in_among (x ∷ rs) r g (inr a) lo hi = or_right _ _ (in_among rs r g a lo hi)
 
 -- the map with one run freed
 abbrev freed : Run → List Cell → List Cell
@@ -434,7 +403,7 @@ still_whole cs r x w v apart = record {
 
 others_whole : (cs : List Cell) (r : Run) (rs : List Run) → ((x : Run) → Among x (r ∷ rs) → WholeRun cs x) → Disjoint (r ∷ rs) → (x : Run) → Among x rs → WholeRun (freed r cs) x
 others_whole cs r rs h d x a = still_whole cs r x (h r (inl refl)) (h x (inr a)) (λ g y. elim (cases_Bool (in_run r g)) [
-  | inl z ↦ cc (in_among rs x g a y, d.0 g z)
+  | inl z ↦ let w = within_true x.start x.length g y in cc (in_among rs x g a w.0 w.1, d.0 g z)
   | inr z ↦ z
 ])
 

@@ -1,8 +1,9 @@
 -- Runs that are live, and whose they are.
-use Rattle.std.proofs.Common.{◌≡◌, ℕ, zero, suc, ◌+◌, ◌-◌, ◌*◌, ◌/◌, ◌<◌, ◌≤◌, Bool, true, false, cond, ◌&&◌, ◌||◌, eqb, ltb, leb, List, [], ◌∷◌, ◌++◌, length, get_or, Some, Option, sym, refl, ap, ◌∙◌, subst, inl, inr, arith}
+use Rattle.std.proofs.Common.{◌≡◌, ℕ, zero, suc, ◌+◌, ◌-◌, ◌*◌, ◌/◌, ◌<◌, ◌≤◌, true, false, cond, ◌&&◌, eqb, ltb, leb, List, [], ◌∷◌, ◌++◌, length, get_or, Some, Option, sym, refl, ap, ◌∙◌, subst, inl, inr, arith}
+use Rattle.std.proofs.lemmas.List.{append_assoc}
 use lib.Seq.{paste}
 use Rattle.std.proofs.lemmas.Bool.Decides.{nat_tests}
-use Rattle.std.proofs.lemmas.Bool.{or_cases, or_parts, or_from, cases_Bool, cases_lt, cond-true, cond-false, ne_eqb, eq-eqb, eqb-true}
+use Rattle.std.proofs.lemmas.Bool.{or_cases, or_parts, cases_Bool, cases_lt, cond-true, cond-false, ne_eqb, eq-eqb, or_left, or_right}
 use Rattle.allocator.specs.declared.cell.Cell.{Cell}
 use Rattle.allocator.specs.declared.cell.Cell.TheVariants.{Free, First, Rest}
 use Rattle.allocator.specs.Maps.{FreeAt, run_length, run_of}
@@ -12,8 +13,9 @@ use Rattle.authority.specs.declared.capability.Capability.{Capability}
 use Rattle.machine.specs.Runs.{begins_at, in_run, in_runs}
 use Rattle.quarantine.specs.declared.run.Run.{Run}
 use Rattle.history.specs.Ledgers.{Entry, Grant, put_at}
-use Rattle.history.proofs.Base.{Among, some_same, within, within_true}
-use Rattle.history.proofs.Laws.{Disjoint, get_taken, made_base, run_end, run_first, within_bounds, within_self}
+use Rattle.history.proofs.Authorities.{made_numbers}
+use Rattle.history.proofs.Base.{Among, some_same, within, within_is, within_true}
+use Rattle.history.proofs.Laws.{Disjoint, get_taken, in_among, run_end, run_first, within_bounds, within_self}
 use Rattle.history.proofs.Invariant.{AllLive, Live, Once, Sound, part}
 
 -- cells differ
@@ -21,70 +23,46 @@ use Rattle.history.proofs.Invariant.{AllLive, Live, Once, Sound, part}
 -- the parts of a run
 
 pub part_taken : (w : Run) (g : ℕ) → part w g ≡ Free → ⊥
-part_taken w g e = go (eqb g w.start) e
-  where
-    go : (b : Bool) → cond b First Rest ≡ Free → ⊥
-    go true e = cc
-    go false e = cc
+part_taken w g e = grind (arith, nat_tests)
 
 pub part_first : (w : Run) (g : ℕ) → part w g ≡ First → g ≡ w.start
-part_first w g e = elim (cases_Bool (eqb g w.start)) [ inl y ↦ eqb-true g w.start y | inr n ↦ cc ]
+part_first w g e = grind (arith, nat_tests)
 
 pub part_rest : (w : Run) (g : ℕ) → w.start < g → part w g ≡ Rest
-part_rest w g h = cond-false (eqb g w.start) First Rest (ne_eqb g w.start (omega arith))
+part_rest w g h = grind (arith, nat_tests)
 
 -- a granule in one of several runs
-
-pub in_run_true : (r : Run) (g : ℕ) → in_run r g ≡ true → (r.start ≤ g) × (g < r.start + r.length)
-in_run_true r g e = grind (arith, nat_tests)
-
-pub in_run_from : (r : Run) (g : ℕ) → r.start ≤ g → g < r.start + r.length → in_run r g ≡ true
-in_run_from r g lo hi = grind (arith, nat_tests)
 
 pub among_in : (rs : List Run) (g : ℕ) → in_runs rs g ≡ true → (r : Run) × Among r rs × (r.start ≤ g) × (g < r.start + r.length)
 among_in [] g e = cc
 among_in (r ∷ rs) g e = elim (or_cases (in_run r g) (in_runs rs g) e) [
-  | inl h ↦ let q = in_run_true r g h in (r, inl refl, q.0, q.1)
+  | inl h ↦ let q = within_true r.start r.length g h in (r, inl refl, q.0, q.1)
   | inr h ↦ let q = among_in rs g h in (q.0, inr q.1, q.2, q.3)
 ]
-
-pub in_among : (rs : List Run) (r : Run) (g : ℕ) → Among r rs → r.start ≤ g → g < r.start + r.length → in_runs rs g ≡ true
-in_among [] r g h lo hi = absurd h
-in_among (x ∷ rs) r g (inl e) lo hi = ap (λ (t : Bool). t || in_runs rs g) (subst (λ (y : Run). in_run y g ≡ true) e (in_run_from r g lo hi))
-in_among (x ∷ rs) r g (inr h) lo hi = go (in_run x g) (in_runs rs g) (in_among rs r g h lo hi)
-  where
-    go : (t u : Bool) → u ≡ true → (t || u) ≡ true
-    go true u e = refl
-    go false u e = e
 
 -- a run that begins among several
 
 pub begins_among : (rs : List Run) (r : Run) → Among r rs → begins_at rs r.start ≡ true
 begins_among [] r h = absurd h
-begins_among (x ∷ rs) r (inl e) = ap (λ (t : Bool). t || begins_at rs r.start) (eq-eqb x.start r.start (ap (λ (y : Run). y.start) (sym e)))
-begins_among (x ∷ rs) r (inr h) = go (eqb x.start r.start) (begins_at rs r.start) (begins_among rs r h)
-  where
-    go : (t u : Bool) → u ≡ true → (t || u) ≡ true
-    go true u e = refl
-    go false u e = e
+begins_among (x ∷ rs) r (inl e) = or_left _ _ (eq-eqb x.start r.start cc)
+begins_among (x ∷ rs) r (inr h) = or_right _ _ (begins_among rs r h)
 
 pub begins_append : (xs ys : List Run) (b : ℕ) → begins_at xs b ≡ false → begins_at ys b ≡ false → begins_at (xs ++ ys) b ≡ false
 begins_append [] ys b p q = q
-begins_append (x ∷ xs) ys b p q = let h = or_parts (eqb x.start b) (begins_at xs b) p in or_from (eqb x.start b) (begins_at (xs ++ ys) b) h.0 (begins_append xs ys b h.1 q)
+begins_append (x ∷ xs) ys b p q = grind (arith, begins_append xs ys b)
 
 pub begins_left : (xs ys : List Run) (b : ℕ) → begins_at (xs ++ ys) b ≡ false → begins_at xs b ≡ false
 begins_left [] ys b p = refl
-begins_left (x ∷ xs) ys b p = let h = or_parts (eqb x.start b) (begins_at (xs ++ ys) b) p in or_from (eqb x.start b) (begins_at xs b) h.0 (begins_left xs ys b h.1)
+begins_left (x ∷ xs) ys b p = grind (arith, begins_left xs ys b)
 
 -- a run that begins at b has granule b
 pub begins_in : (rs : List Run) (b : ℕ) → ((r : Run) → Among r rs → 0 < r.length) → in_runs rs b ≡ false → begins_at rs b ≡ false
 begins_in [] b h p = refl
 begins_in (x ∷ rs) b h p =
+    let pos = h x (inl refl) in
     let q = or_parts (in_run x b) (in_runs rs b) p in
-    or_from (eqb x.start b) (begins_at rs b) (elim (cases_Bool (eqb x.start b)) [
-      | inl y ↦ let e : x.start ≡ b = eqb-true x.start b y in let pos = h x (inl refl) in cc (in_run_from x b (omega arith) (omega arith))
-      | inr n ↦ n
-    ]) (begins_in rs b (λ r a. h r (inr a)) q.1)
+    let i = begins_in rs b (λ r a. h r (inr a)) q.1 in
+    grind (arith, nat_tests)
 
 -- no two begin at one granule
 
@@ -105,25 +83,15 @@ pub once_more : (xs : List Run) (r : Run) → Once xs → begins_at xs r.start �
 once_more [] r h n = (refl, tt)
 once_more (x ∷ xs) r h n =
     let q = or_parts (eqb x.start r.start) (begins_at xs r.start) n in
-    (begins_append xs (r ∷ []) x.start h.0 (or_from (eqb r.start x.start) false (turn q.0) refl), once_more xs r h.1 q.1)
-  where
-    turn : eqb x.start r.start ≡ false → eqb r.start x.start ≡ false
-    turn e = grind (arith, nat_tests)
+    (begins_append xs (r ∷ []) x.start h.0 (grind (arith, nat_tests)), once_more xs r h.1 q.1)
 
 pub once_more_of : (xs ys : List Run) (r : Run) → Once (xs ++ ys) → begins_at (xs ++ ys) r.start ≡ false → Once (xs ++ (ys ++ (r ∷ [])))
 once_more_of [] ys r h n = once_more ys r h n
 once_more_of (x ∷ xs) ys r h n =
     let q = or_parts (eqb x.start r.start) (begins_at (xs ++ ys) r.start) n in (
-      subst (λ (t : List Run). begins_at t x.start ≡ false) (regroup xs ys r) (begins_append (xs ++ ys) (r ∷ []) x.start h.0 (or_from (eqb r.start x.start) false (turn q.0) refl)),
+      subst (λ (t : List Run). begins_at t x.start ≡ false) (append_assoc xs ys (r ∷ [])) (begins_append (xs ++ ys) (r ∷ []) x.start h.0 (grind (arith, nat_tests))),
       once_more_of xs ys r h.1 q.1,
     )
-  where
-    turn : eqb x.start r.start ≡ false → eqb r.start x.start ≡ false
-    turn e = grind (arith, nat_tests)
-
-    regroup : (us vs : List Run) (c : Run) → (us ++ vs) ++ (c ∷ []) ≡ us ++ (vs ++ (c ∷ []))
-    regroup [] vs c = refl
-    regroup (u ∷ us) vs c = ap (λ (t : List Run). u ∷ t) (regroup us vs c)
 
 module _ {cs : List Cell} {latest : ℕ → Option ℕ} {grants : ℕ → Option Grant} where
   -- none of its granules is free
@@ -132,7 +100,7 @@ module _ {cs : List Cell} {latest : ℕ → Option ℕ} {grants : ℕ → Option
 
   -- the bounds of its grant
   pub live_bounds : {k : ℕ} {w : Run} (l : Live cs latest grants k w) → (base_of l.whole ≡ 16 * w.start) × (top_of l.whole ≡ 16 * w.start + 16 * w.length)
-  live_bounds {w = w} l = let m = made_base _ _ _ l.whole l.made in (m.0, m.1)
+  live_bounds {w = w} l = let m = made_numbers _ _ _ l.whole l.made in (m.0, m.1)
 
   -- two that share a granule are of one grant, and so are one
   pub same_grant : {k k' : ℕ} {w w' : Run} → Live cs latest grants k w → Live cs latest grants k' w' → (g : ℕ)
@@ -166,7 +134,7 @@ module _ {cs : List Cell} {latest : ℕ → Option ℕ} {grants : ℕ → Option
   disjoint (r ∷ rs) al o = (
     (λ g e. elim (cases_Bool (in_runs rs g)) [
       | inl y ↦ let (x, am, lo, hi) = among_in rs g y in
-          let h = in_run_true r g e in
+          let h = within_true r.start r.length g e in
           let s = same_run (al r (inl refl)).1 (al x (inr am)).1 g h.0 h.1 lo hi in
           cc (begins_among rs x am)
       | inr n ↦ n
@@ -217,12 +185,6 @@ module _ {cs : List Cell} {latest : ℕ → Option ℕ} {grants : ℕ → Option
     inside = o.inside;
   }
 
-within_from : (a n g : ℕ) → a ≤ g → g < a + n → within a n g ≡ true
-within_from a n g lo hi = grind (arith, nat_tests)
-
-span_from : (x i y : ℕ) → x ≤ i → i < y → (leb x i && ltb i y) ≡ true
-span_from x i y lo hi = grind (arith, nat_tests)
-
 -- a run more
 module _ (cs : List Cell) (latest : ℕ → Option ℕ) (grants : ℕ → Option Grant) (b n k₀ to : ℕ) (whole : Capability)
     (made : capability_of (16 * b) (16 * b + 16 * n) all_permissions ≡ Some whole) (pos : 0 < n) (room : FreeAt cs b n) where
@@ -246,7 +208,7 @@ module _ (cs : List Cell) (latest : ℕ → Option ℕ) (grants : ℕ → Option
       known (x ∷ xs) (suc i) lt e = known xs i (omega arith) e
 
   spans : (base_of whole ≡ 16 * b) × (top_of whole ≡ 16 * b + 16 * n)
-  spans = let m = made_base _ _ _ whole made in (m.0, m.1)
+  spans = let m = made_numbers _ _ _ whole made in (m.0, m.1)
 
   pub live_grown : {k : ℕ} {w : Run} → k < k₀ → Live cs latest grants k w → Live grown later more k w
   live_grown {k} {w} lt l = record {
@@ -275,8 +237,8 @@ module _ (cs : List Cell) (latest : ℕ → Option ℕ) (grants : ℕ → Option
     made = made;
     granted = cond-true (eqb k₀ k₀) _ _ (eq-eqb k₀ k₀ refl);
     some = pos;
-    cells = λ g lo hi. get_taken cs b n g pos room.0 ∙ cond-true (within b n g) _ _ (within_from b n g lo hi);
-    mine = λ i lo hi. cond-true (leb (base_of whole) i && ltb i (top_of whole)) _ _ (let s = spans in span_from (base_of whole) i (top_of whole) (omega arith) (omega arith));
+    cells = λ g lo hi. get_taken cs b n g pos room.0 ∙ cond-true (within b n g) _ _ (within_is b n g lo hi);
+    mine = λ i lo hi. cond-true (leb (base_of whole) i && ltb i (top_of whole)) _ _ (let s = spans in grind (arith, nat_tests));
   }
 
   pub sound_grown : {a : Capability} {e : Option Entry} (o : Sound cs latest grants a e) → o.provenance < k₀ → Sound grown later more a e

@@ -15,11 +15,12 @@ use Rattle.history.specs.Histories.{Sized, after, answer_to, outcomes, state_aft
 use Rattle.history.specs.Ledgers.{Ledger, empty_ledger, note, noted_all}
 use Rattle.history.specs.Provenance.{ledger}
 use Rattle.history.specs.Release.{FreedBySweep, IsFree, MemoryReturnsWhenTheSweepEnds, NoShut, NoShuts, NoneFree, Returns, Waits, granules_named, granules_named_in, granules_since, outcomes_since, run_from}
+use Rattle.history.proofs.Authorities.{made_numbers}
 use Rattle.history.proofs.Base.{Among, within, among_append, among_left, among_right, ok_same, within_true}
 use Rattle.history.proofs.Invariant.{Inv, Live}
 use Rattle.history.proofs.Changes.{painted_released}
-use Rattle.history.proofs.Laws.{get_taken, made_base}
-use Rattle.history.proofs.Live.{among_in, in_among, live_taken}
+use Rattle.history.proofs.Laws.{get_taken, in_among}
+use Rattle.history.proofs.Live.{among_in, live_taken}
 use Rattle.history.proofs.Steps.{inv_fresh, inv_run, inv_step}
 use Rattle.history.proofs.View.{View, v_no, v_grant, v_free, v_open, v_pass, v_end, v_shut, view}
 
@@ -49,7 +50,7 @@ module _ {K : Fixed} {s : State} {b : Ledger} (v : Inv K s b) where
   held_some : (r : Run) → Among r (s.painted ++ s.waiting) → (0 < r.length) × (0 < K.memory_granules)
   held_some r am =
       let l = (held_taken r am).1 in
-      let m = made_base _ _ _ l.whole l.made in
+      let m = made_numbers _ _ _ l.whole l.made in
       let n = (v.numbered _ _ l.granted).1 in
       (l.some, omega (arith, l.some, m.1))
 

@@ -15,11 +15,13 @@ use Rattle.machine.specs.Runs.{in_runs, survivor}
 use Rattle.quarantine.specs.declared.run.Run.{Run}
 use Rattle.history.specs.Isolation.{Group, GivesApart}
 use Rattle.history.specs.Ledgers.{Entry, Grant, Ledger, derived_entry, granted, loaded, note, slot, stored, with_entry, with_grant, with_granule, with_provenance}
+use Rattle.history.proofs.Authorities.{made_numbers}
 use Rattle.history.proofs.Base.{some_same, within, within_true}
 use Rattle.history.proofs.Changes.{inv_pass, painted_released, painted_wiped_bytes, painted_wiped_tags, whole_made}
 use Rattle.history.proofs.Invariant.{Inv, Sound}
-use Rattle.history.proofs.Laws.{get_image, get_set, get_swept, get_taken, made_base, reg, reg_emptied, reg_in, reg_put, reg_slot, slot_row}
+use Rattle.history.proofs.Laws.{get_image, get_swept, get_taken, reg, reg_emptied, reg_in, reg_put, reg_slot, slot_row}
 use Rattle.history.proofs.Live.{live_taken, sound_span}
+use Rattle.history.proofs.Places.{get_set}
 use Rattle.history.proofs.Rooms.{Room, room, span_in, span_same}
 use Rattle.history.proofs.Steps.{reg_top}
 use Rattle.history.proofs.View.{View, v_no, v_grant, v_free, v_derive, v_getb, v_putb, v_putc, v_getc, v_give, v_drop, v_open, v_pass, v_end, v_shut}
@@ -229,7 +231,7 @@ tidy_step m K s b v t gift v_no = t
 tidy_step m K s b v t gift (v_grant {c} {r} {n} at next hc hr pos same e) =
     let rm = room s.cells at n (K.lawful.answered s.cells s.mark n at next pos e) in
     let w = whole_made (16 * at) (16 * at + 16 * n) (omega arith) (omega (arith, rm.0, v.l_cells, same, v.sized)) in
-    let z = made_base _ _ _ w.0 w.1 in
+    let z = made_numbers _ _ _ w.0 w.1 in
     subst (λ (o : Option Capability). Tidy m (with_register (with_map s (paste s.cells at (run_of n) n) next) c r o) (granted b c r o)) (sym w.1)
     (tidy_grant m K s b v t c r n at next hc hr pos rm w.0 z.0 z.1)
 tidy_step m K s b v t gift (v_free a hc hr e own al whole w) = tidy_fewer m K s b v t _ refl refl (λ g x. x) (λ i a e. e)
