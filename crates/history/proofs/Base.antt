@@ -1,5 +1,5 @@
 -- Small facts on tests, options and intervals.
-use Rattle.std.proofs.Common.{◌≡◌, ℕ, ◌+◌, ◌<◌, ◌≤◌, Bool, true, ◌&&◌, ltb, leb, ◌⊎◌, List, [], ◌∷◌, ◌++◌, get_or, replicate, Some, Ok, Result, inl, inr, arith, rules}
+use Rattle.std.proofs.Common.{◌≡◌, ℕ, ◌+◌, ◌<◌, ◌≤◌, Bool, true, false, cond, ◌&&◌, ltb, leb, ◌⊎◌, List, [], ◌∷◌, ◌++◌, get_or, replicate, Some, Ok, Result, refl, inl, inr, arith, rules}
 use Rattle.std.proofs.lemmas.List.{places}
 use Rattle.std.proofs.lemmas.Bool.Decides.{nat_tests}
 use Rattle.quarantine.specs.declared.run.Run.{Run}
@@ -12,6 +12,11 @@ ok_same e = cc
 
 pub none_at : {X : Type 0} (n i : ℕ) (a : X) → get_or (replicate n a) i a ≡ a
 none_at n i a = search (rules, places)
+
+-- a tag that stands was not cleared
+pub not_cleared : (t : Bool) {y : Bool} → cond t false y ≡ true → (t ≡ false) × (y ≡ true)
+not_cleared true e = cc
+not_cleared false e = (refl, e)
 
 -- a place in the n from a on
 abbrev pub within : ℕ → ℕ → ℕ → Bool
@@ -41,3 +46,6 @@ among_left (x ∷ xs) ys r (inr h) = inr (among_left xs ys r h)
 pub among_right : (xs ys : List Run) (r : Run) → Among r ys → Among r (xs ++ ys)
 among_right [] ys r h = h
 among_right (x ∷ xs) ys r h = inr (among_right xs ys r h)
+
+pub among_push : (xs : List Run) (x r : Run) → Among r (xs ++ (x ∷ [])) → Among r xs ⊎ (r ≡ x)
+among_push xs x r h = elim (among_append xs (x ∷ []) r h) [ inl q ↦ inl q | inr q ↦ elim q [ inl e ↦ inr e | inr n ↦ absurd n ] ]

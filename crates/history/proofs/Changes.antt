@@ -1,8 +1,9 @@
 -- Each change of the machine keeps the invariant.
 use Rattle.std.proofs.Common.{◌≡◌, ℕ, zero, suc, ◌+◌, ◌-◌, ◌*◌, ◌/◌, ◌%◌, ◌<◌, ◌≤◌, Bool, true, false, cond, ◌&&◌, eqb, ltb, ◌≢◌, List, [], ◌∷◌, length, get_or, set, Some, None, Option, sym, refl, ap, ◌∙◌, subst, inl, inr, arith, length-set}
+use Rattle.std.proofs.lemmas.List.{append-nil}
 use lib.Seq.{paste}
 use Rattle.std.proofs.lemmas.Bool.Decides.{nat_tests}
-use Rattle.std.proofs.lemmas.Bool.{or_left, cases_Bool, cases_lt, eqb-true, eqb-false, cond-true, cond-false, lt-ltb}
+use Rattle.std.proofs.lemmas.Bool.{or_left, cases_Bool, cases_lt, eqb-true, eqb-false, cond-true, cond-false, lt-ltb, false_from_ne_true}
 use Rattle.allocator.specs.declared.cell.Cell.{Cell}
 use Rattle.allocator.specs.declared.cell.Cell.TheVariants.{Free, First, Rest}
 use Rattle.allocator.specs.Maps.{FreeAt, run_length, run_of}
@@ -21,11 +22,12 @@ use Rattle.quarantine.specs.declared.sweep.Sweep.{Sweep}
 use Rattle.quarantine.specs.declared.sweep.Sweep.TheVariants.{Idle, Open}
 use Rattle.history.specs.Ledgers.{Entry, Grant, Ledger, put_at, slot, with_entry, with_grant, with_granule}
 use Rattle.history.proofs.Authorities.{made_numbers}
-use Rattle.history.proofs.Base.{Among, among_append, among_left, among_right, some_same, within, within_true}
+use Rattle.history.proofs.Base.{Among, among_append, among_left, among_push, among_right, not_cleared, some_same, within, within_true}
 use Rattle.history.proofs.Laws.{InsideAll, WholeRun, base_at, capability_at, get_released, get_swept, get_taken, get_wiped_bytes, get_wiped_tags, length_image, length_released, length_swept, length_taken, length_wiped_bytes, length_wiped_tags, read_image, read_other, read_same, read_set, reg, reg_emptied, reg_put, run_end, shaped_emptied, shaped_put}
 use Rattle.history.proofs.Invariant.{Inv, Live, Sound}
-use Rattle.history.proofs.Live.{among_in, begins_append, begins_in, disjoint, grown, later, live_bounds, live_grown, live_kept, live_taken, more, once_left, once_more_of, once_nil, once_right, room_free, sound_base, sound_grown, sound_kept, sound_new, sound_span, whole_run}
+use Rattle.history.proofs.Live.{among_in, begins_append, begins_in, disjoint, grown, later, live_bounds, live_grown, live_kept, live_taken, more, once_left, once_more_of, once_right, sound_base, sound_grown, sound_kept, sound_new, sound_span, whole_run}
 use Rattle.history.proofs.Places.{get_set}
+use Rattle.history.proofs.Rooms.{room_of}
 
 -- bounds inside the largest memory make a capability with all permissions
 pub whole_made : (x y : ℕ) → x < y → y ≤ 16384 → (w : Capability) × (capability_of x y all_permissions ≡ Some w)
@@ -43,9 +45,6 @@ pub tagged_in : (ts : List Bool) (g : ℕ) → get_or ts g false ≡ true → g 
 tagged_in [] g e = cc
 tagged_in (x ∷ ts) zero e = omega arith
 tagged_in (x ∷ ts) (suc g) e = let h = tagged_in ts g e in omega arith
-
-pub open_same : {p q : ℕ} → Open p ≡ Open q → p ≡ q
-open_same e = cc
 
 module _ (K : Fixed) (s : State) (b : Ledger) (v : Inv K s b) where
   -- a register
@@ -98,13 +97,13 @@ module _ (K : Fixed) (s : State) (b : Ledger) (v : Inv K s b) where
     mem = v.mem;
     waiting = λ r x. absurd x;
     painted = v.waiting;
-    ends = λ r x. v.ends r (among_right s.painted s.waiting r (elim (among_append s.waiting [] r x) [ inl h ↦ h | inr h ↦ absurd h ]));
-    once = once_nil s.waiting (once_right s.painted s.waiting v.once);
+    ends = λ r x. v.ends r (among_right s.painted s.waiting r (rw append-nil at x));
+    once = rw append-nil (once_right s.painted s.waiting v.once);
     apart = λ r x. absurd x;
     numbered = v.numbered;
     idle = λ e. cc;
     regs_new = λ j a e. (kept (reg s j) a (sym (there j) ∙ e)).1;
-    tags_new = λ p e. let z : 0 ≡ p = open_same e in (omega arith, λ g lt t. absurd (let f : ⊥ = omega arith in f));
+    tags_new = λ p e. let z : 0 ≡ p = cc in (omega arith, λ g lt t. absurd (let f : ⊥ = omega arith in f));
   }
     where
       there : (j : ℕ) → reg (with_painted s) j ≡ survivor s.waiting (reg s j)
@@ -136,22 +135,18 @@ module _ (K : Fixed) (s : State) (b : Ledger) (v : Inv K s b) where
     numbered = v.numbered;
     idle = λ e. cc;
     regs_new = v.regs_new;
-    tags_new = λ q e. let z : p + k ≡ q = open_same e in
+    tags_new = λ q e. let z : p + k ≡ q = cc in
         (omega arith, λ g lt t. elim (cases_lt g p) [ inl h ↦ (v.tags_new p sw).1 g h (still g t).0 | inr h ↦ (still g t).1 h (omega arith) ]);
   }
     where
       still : (g : ℕ) → get_or (swept_tags s.painted s.bytes p k s.tags) g false ≡ true
           → (get_or s.tags g false ≡ true) × (p ≤ g → g < p + k → in_runs s.painted (word_at s.bytes (16 * g) / 16) ≡ false)
-      still g t = go (within p k g) (in_runs s.painted (word_at s.bytes (16 * g) / 16)) (get_or s.tags g false) refl refl (sym (get_swept s.painted s.bytes p k g s.tags) ∙ t)
+      still g t =
+          let (out, old) = not_cleared _ (sym (get_swept s.painted s.bytes p k g s.tags) ∙ t) in
+          (old, λ lo hi. clear p k g _ out lo hi)
         where
-          go : (w i y : Bool) → within p k g ≡ w → in_runs s.painted (word_at s.bytes (16 * g) / 16) ≡ i → cond (w && i) false y ≡ true
-              → (y ≡ true) × (p ≤ g → g < p + k → in_runs s.painted (word_at s.bytes (16 * g) / 16) ≡ false)
-          go true true y a c e = cc
-          go true false y a c e = (e, λ _ _. c)
-          go false i y a c e = (e, λ lo hi. absurd (out p k g a lo hi))
-            where
-              out : (p k g : ℕ) → within p k g ≡ false → p ≤ g → g < p + k → ⊥
-              out p k g a lo hi = grind (arith, nat_tests)
+          clear : (p k g : ℕ) (i : Bool) → (within p k g && i) ≡ false → p ≤ g → g < p + k → i ≡ false
+          clear p k g i e lo hi = grind (arith, nat_tests)
 
   -- the painted runs lie inside, are exactly runs of the map, and share no granule
   pub painted_inside : InsideAll (length s.tags) s.painted
@@ -186,7 +181,7 @@ module _ (K : Fixed) (s : State) (b : Ledger) (v : Inv K s b) where
     shaped = v.shaped;
     regs = λ j a e. sound_kept s.painted _ painted_released v.painted (v.regs j a e) (v.regs_new j a e);
     mem = λ g t.
-        let (old, out) = still g t in
+        let (out, old) = not_cleared _ (sym (painted_wiped_tags g) ∙ t) in
         let (a, at, o) = v.mem g old in
         let inside = tagged_in s.tags g old in
         let new = (v.tags_new p sw).1 g (omega (arith, v.l_tags)) old in
@@ -202,13 +197,6 @@ module _ (K : Fixed) (s : State) (b : Ledger) (v : Inv K s b) where
     tags_new = λ q e. cc;
   }
     where
-      still : (g : ℕ) → get_or (with_ended s).tags g false ≡ true → (get_or s.tags g false ≡ true) × (in_runs s.painted g ≡ false)
-      still g t = go (in_runs s.painted g) (get_or s.tags g false) refl (sym (painted_wiped_tags g) ∙ t)
-        where
-          go : (i y : Bool) → in_runs s.painted g ≡ i → cond i false y ≡ true → (y ≡ true) × (in_runs s.painted g ≡ false)
-          go true y q e = cc
-          go false y q e = (e, q)
-
       read : (g : ℕ) → in_runs s.painted g ≡ false → capability_at (with_ended s).bytes g ≡ capability_at s.bytes g
       read g out = (read_same (with_ended s).bytes s.bytes g (λ i lo hi.
           let d : i / 16 ≡ g = omega arith in
@@ -261,17 +249,20 @@ module _ (K : Fixed) (s : State) (b : Ledger) (v : Inv K s b) where
     shaped = v.shaped;
     regs = v.regs;
     mem = v.mem;
-    waiting = λ r x. elim (among_append s.waiting _ r x) [ inl h ↦ v.waiting r h | inr h ↦ elim h [ inl q ↦ (own.provenance, subst (λ (y : Run). Live s.cells b.latest b.grants own.provenance y) (sym (q ∙ freed_run i a e al whole)) own.live) | inr q ↦ absurd q ] ];
+    waiting = λ r x. elim (among_push s.waiting _ r x) [
+      | inl h ↦ v.waiting r h
+      | inr q ↦ (own.provenance, subst (λ (y : Run). Live s.cells b.latest b.grants own.provenance y) (sym (q ∙ freed_run i a e al whole)) own.live)
+    ];
     painted = v.painted;
     ends = λ r x. elim (among_append s.painted _ r x) [
       | inl h ↦ v.ends r (among_left s.painted s.waiting r h)
-      | inr h ↦ elim (among_append s.waiting _ r h) [
+      | inr h ↦ elim (among_push s.waiting _ r h) [
         | inl k ↦ v.ends r (among_right s.painted s.waiting r k)
-        | inr k ↦ elim k [ inl q ↦ (λ z. run_end s.cells (base_of a / 16) some (ap (λ (y : Run). get_or s.cells (y.start + y.length) Free) (sym q) ∙ z)) | inr q ↦ absurd q ]
+        | inr q ↦ (λ z. run_end s.cells (base_of a / 16) some (ap (λ (y : Run). get_or s.cells (y.start + y.length) Free) (sym q) ∙ z))
       ]
     ];
     once = once_more_of s.painted s.waiting (run_under s a) v.once (begins_append s.painted s.waiting (base_of a / 16) (begins_in s.painted (base_of a / 16) (λ r x. (v.painted r x).1.some) (v.regs_new i a e)) new);
-    apart = λ r x. elim (among_append s.waiting _ r x) [ inl h ↦ v.apart r h | inr h ↦ elim h [ inl q ↦ ap (λ (y : Run). in_runs s.painted y.start) q ∙ v.regs_new i a e | inr q ↦ absurd q ] ];
+    apart = λ r x. elim (among_push s.waiting _ r x) [ inl h ↦ v.apart r h | inr q ↦ ap (λ (y : Run). in_runs s.painted y.start) q ∙ v.regs_new i a e ];
     numbered = v.numbered;
     idle = v.idle;
     regs_new = v.regs_new;
@@ -288,8 +279,7 @@ module _ (K : Fixed) (s : State) (b : Ledger) (v : Inv K s b) where
   inv_mem : (bs : List ℕ) (ts : List Bool) (gs : ℕ → Option Entry) → length bs ≡ length s.bytes → length ts ≡ length s.tags
       → ((g : ℕ) → get_or ts g false ≡ true
       → (a : Capability) × (capability_at bs g ≡ Some a) × Sound s.cells b.latest b.grants a (gs g) × ((p : ℕ) → s.sweep ≡ Open p → g < p → in_runs s.painted (base_of a / 16) ≡ false))
-      → Inv K (record { registers = s.registers; bytes = bs; tags = ts; cells = s.cells; mark = s.mark; waiting = s.waiting; painted = s.painted; sweep = s.sweep })
-      (record { registers = b.registers; granules = gs; latest = b.latest; grants = b.grants; next = b.next })
+      → Inv K (record s { bytes = bs; tags = ts }) (record b { granules = gs })
   inv_mem bs ts gs lb lt h = record {
     sized = v.sized;
     l_bytes = lb ∙ v.l_bytes;
@@ -315,16 +305,9 @@ module _ (K : Fixed) (s : State) (b : Ledger) (v : Inv K s b) where
 
   pub inv_byte : (i x : ℕ) → i < 16 * K.memory_granules → Inv K (with_byte s i x) b
   inv_byte i x lt = inv_mem (set s.bytes i x) (set s.tags (i / 16) false) b.granules (simp length-set) (simp length-set) λ g t.
-      let (old, ne) = still g t in
+      let (ne, old) = not_cleared _ (sym (get_set s.tags (i / 16) g false false (omega (arith, v.l_tags))) ∙ t) in
       let (a, at, o) = v.mem g old in
-      (a, read_set s.bytes i x g (omega (arith, v.l_bytes)) ne ∙ at, o, mem_new g old a at)
-    where
-      still : (g : ℕ) → get_or (set s.tags (i / 16) false) g false ≡ true → (get_or s.tags g false ≡ true) × (g ≢ i / 16)
-      still g t = go (eqb g (i / 16)) refl (sym (get_set s.tags (i / 16) g false false (omega (arith, v.l_tags))) ∙ t)
-        where
-          go : (u : Bool) → eqb g (i / 16) ≡ u → cond u false (get_or s.tags g false) ≡ true → (get_or s.tags g false ≡ true) × (g ≢ i / 16)
-          go true q e = cc
-          go false q e = (e, eqb-false g (i / 16) q)
+      (a, read_set s.bytes i x g (omega (arith, v.l_bytes)) (eqb-false g (i / 16) ne) ∙ at, o, mem_new g old a at)
 
   pub inv_capability : (g₀ : ℕ) (c : Capability) (e : Option Entry) → g₀ < K.memory_granules → Sound s.cells b.latest b.grants c e → in_runs s.painted (base_of c / 16) ≡ false
       → Inv K (with_capability s g₀ c) (with_granule b g₀ e)
@@ -373,15 +356,13 @@ module _ (K : Fixed) (s : State) (b : Ledger) (v : Inv K s b) (c r n at next : �
   new = sound_new s.cells b.latest b.grants at n b.next c w made pos room
 
   free_there : (g : ℕ) → at ≤ g → g < at + n → get_or s.cells g Free ≡ Free
-  free_there g lo hi = room_free s.cells b.latest b.grants at n b.next c w made pos room g lo hi
+  free_there = (room_of s.cells at n room).1
 
   unpainted : in_runs s.painted (base_of w / 16) ≡ false
   unpainted =
       let e : base_of w / 16 ≡ at = omega (arith, spans) in
-      ap (in_runs s.painted) e ∙ (elim (cases_Bool (in_runs s.painted at)) [
-        | inl y ↦ let (x, am, lo, hi) = among_in s.painted at y in absurd (live_taken (v.painted x am).1 at lo hi (free_there at (omega arith) (omega arith)))
-        | inr q ↦ q
-      ])
+      ap (in_runs s.painted) e ∙ (false_from_ne_true _ λ y.
+          let (x, am, lo, hi) = among_in s.painted at y in live_taken (v.painted x am).1 at lo hi (free_there at (omega arith) (omega arith)))
 
   still_ends : {k : ℕ} (x : Run) → Live s.cells b.latest b.grants k x → (get_or s.cells (x.start + x.length) Free ≡ Rest → ⊥) → get_or (paste s.cells at (run_of n) n) (x.start + x.length) Free ≡ Rest → ⊥
   still_ends x l old e = go (within at n (x.start + x.length)) (eqb (x.start + x.length) at) refl refl (sym (get_taken s.cells at n (x.start + x.length) pos room.0) ∙ e)

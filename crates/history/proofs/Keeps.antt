@@ -31,12 +31,12 @@ use Rattle.history.specs.Ledgers.{Entry, Ledger, granted as noted_grant, loaded 
 use Rattle.history.proofs.Authorities.{made_numbers}
 use Rattle.history.proofs.Base.{ok_same, some_same}
 use Rattle.history.proofs.Both.{core_byte, core_cap, core_end, core_grant, core_paint, core_pass, core_reg, core_shut, core_wait, granule_alike}
-use Rattle.history.proofs.Changes.{inv_pass, open_same, whole_made}
+use Rattle.history.proofs.Changes.{inv_pass, whole_made}
 use Rattle.history.proofs.Core.{Core}
 use Rattle.history.proofs.Invariant.{Inv}
 use Rattle.history.proofs.Laws.{reg_slot, slot_row}
 use Rattle.history.proofs.Live.{sound_span}
-use Rattle.history.proofs.Rooms.{room}
+use Rattle.history.proofs.Rooms.{room_of}
 use Rattle.history.proofs.Steps.{reg_top}
 use Rattle.history.proofs.Tidy.{Tidy, tidy_pass}
 use Rattle.history.proofs.View.{View, granule_is, register_is, v_no, v_free, view}
@@ -175,7 +175,7 @@ module _ (m : Group) (K : Fixed) (s t : State) (b c : Ledger) (v : Inv K s b) (v
   two_step : (k : ℕ) (w w' : Sweep) → w ≡ w' → s.sweep ≡ w → t.sweep ≡ w' → Match (Agrees (Call.Step k)) (stepped K.memory_granules s k w) (stepped K.memory_granules t k w')
   two_step k Idle Idle e q q' = m_no
   two_step k (Open p) (Open p') e q q' =
-      let z : p ≡ p' = open_same e in
+      let z : p ≡ p' = cc in
       subst (λ (x : ℕ). Match (Agrees (Call.Step k)) (stepped K.memory_granules s k (Open p)) (stepped K.memory_granules t k (Open x))) z
       (let h = (v.tags_new p q).0 in
       two_cond (leb K.memory_granules (p + k))
@@ -213,7 +213,7 @@ module _ (m : Group) (K : Fixed) (s t : State) (b c : Ledger) (v : Inv K s b) (v
     at_place : (q : Option (ℕ × ℕ)) → K.place s.cells s.mark k ≡ q → Comes (placed s.cells s.mark k q) (placed t.cells t.mark k q)
     at_place None e = m_no
     at_place (Some x) e =
-        let rm = room s.cells x.0 k (K.lawful.answered s.cells s.mark k x.0 x.1 pos e) in
+        let rm = room_of s.cells x.0 k (K.lawful.answered s.cells s.mark k x.0 x.1 pos e) in
         let w = whole_made (16 * x.0) (16 * x.0 + 16 * k) (omega arith) (omega (arith, rm.0, v.l_cells, same, v.sized)) in
         let z = made_numbers _ _ _ w.0 w.1 in
         m_ok (

@@ -3,7 +3,7 @@ use Rattle.std.proofs.Common.{◌≡◌, ℕ, zero, suc, ◌+◌, ◌-◌, ◌*�
 use lib.Seq.{paste}
 use Rattle.std.proofs.lemmas.List.Edits.{length-paste}
 use Rattle.std.proofs.lemmas.List.{get_or_default, get_or-drop, get_or_past, get_or-replicate, get_or-set_other, get_or-set_same, length-map, length-set, places}
-use Rattle.std.proofs.lemmas.Bool.{cases_Bool, cases_eq, cases_lt, cond-false, cond-true, eq-eqb, lt-ltb, ne_eqb, or_right}
+use Rattle.std.proofs.lemmas.Bool.{cases_eq, cases_lt, cond-false, cond-true, eq-eqb, lt-ltb, ne_eqb, or_right, false_from_ne_true}
 use Rattle.std.proofs.lemmas.Bool.Decides.{nat_tests}
 use Rattle.allocator.specs.Allocators.{Allocation, releasing}
 use Rattle.allocator.specs.declared.cell.Cell.{Cell}
@@ -52,7 +52,7 @@ reg_slot s c r h = λ i. register_in s.registers (sym (slot_row c r h) i) (sym (
 
 row_length : (rs : Registers) (c : ℕ) → Shaped rs → c < 8 → length (get_or rs.compartments c empty_compartment).registers ≡ 8
 row_length rs c sh h = let l = sh.rows in
-    ap (λ (x : Compartment). length x.registers) (get_or_default rs.compartments c empty_compartment (record { registers = [] }) (omega arith)) ∙ sh.columns c h
+    rw (get_or_default rs.compartments c empty_compartment (record { registers = [] }) (omega arith)) (sh.columns c h)
 
 pub reg_put : (rs : Registers) (c r j : ℕ) (o : Option Capability) → Shaped rs → c < 8 → r < 8 → reg_in (with_register_in rs c r o) j ≡ cond (eqb j (slot c r)) o (reg_in rs j)
 reg_put rs c r j o sh hc hr = elim (cases_eq (j / 8) c) [
@@ -402,10 +402,8 @@ still_whole cs r x w v apart = record {
     go false q = v.end q
 
 others_whole : (cs : List Cell) (r : Run) (rs : List Run) → ((x : Run) → Among x (r ∷ rs) → WholeRun cs x) → Disjoint (r ∷ rs) → (x : Run) → Among x rs → WholeRun (freed r cs) x
-others_whole cs r rs h d x a = still_whole cs r x (h r (inl refl)) (h x (inr a)) (λ g y. elim (cases_Bool (in_run r g)) [
-  | inl z ↦ let w = within_true x.start x.length g y in cc (in_among rs x g a w.0 w.1, d.0 g z)
-  | inr z ↦ z
-])
+others_whole cs r rs h d x a = still_whole cs r x (h r (inl refl)) (h x (inr a)) λ g y. false_from_ne_true _ λ z.
+    let w = within_true x.start x.length g y in cc (in_among rs x g a w.0 w.1, d.0 g z)
 
 pub length_released : (rs : List Run) (cs : List Cell) → ((r : Run) → Among r rs → WholeRun cs r) → Disjoint rs → length (released_cells rs cs) ≡ length cs
 length_released [] cs h d = refl

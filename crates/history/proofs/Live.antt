@@ -1,9 +1,9 @@
 -- Runs that are live, and whose they are.
-use Rattle.std.proofs.Common.{◌≡◌, ℕ, zero, suc, ◌+◌, ◌-◌, ◌*◌, ◌/◌, ◌<◌, ◌≤◌, true, false, cond, ◌&&◌, eqb, ltb, leb, List, [], ◌∷◌, ◌++◌, length, get_or, Some, Option, sym, refl, ap, ◌∙◌, subst, inl, inr, arith}
+use Rattle.std.proofs.Common.{◌≡◌, ℕ, ◌+◌, ◌*◌, ◌/◌, ◌<◌, ◌≤◌, true, false, cond, ◌&&◌, eqb, ltb, leb, List, [], ◌∷◌, ◌++◌, get_or, Some, Option, sym, refl, ap, ◌∙◌, subst, inl, inr, arith}
 use Rattle.std.proofs.lemmas.List.{append_assoc}
 use lib.Seq.{paste}
 use Rattle.std.proofs.lemmas.Bool.Decides.{nat_tests}
-use Rattle.std.proofs.lemmas.Bool.{or_cases, or_parts, cases_Bool, cases_lt, cond-true, cond-false, ne_eqb, eq-eqb, or_left, or_right}
+use Rattle.std.proofs.lemmas.Bool.{or_cases, or_parts, cases_lt, cond-true, cond-false, ne_eqb, eq-eqb, or_left, or_right, false_from_ne_true}
 use Rattle.allocator.specs.declared.cell.Cell.{Cell}
 use Rattle.allocator.specs.declared.cell.Cell.TheVariants.{Free, First, Rest}
 use Rattle.allocator.specs.Maps.{FreeAt, run_length, run_of}
@@ -17,6 +17,7 @@ use Rattle.history.proofs.Authorities.{made_numbers}
 use Rattle.history.proofs.Base.{Among, some_same, within, within_is, within_true}
 use Rattle.history.proofs.Laws.{Disjoint, get_taken, in_among, run_end, run_first, within_bounds, within_self}
 use Rattle.history.proofs.Invariant.{AllLive, Live, Once, Sound, part}
+use Rattle.history.proofs.Rooms.{room_of}
 
 -- cells differ
 
@@ -74,10 +75,6 @@ pub once_right : (xs ys : List Run) → Once (xs ++ ys) → Once ys
 once_right [] ys h = h
 once_right (x ∷ xs) ys h = once_right xs ys h.1
 
-pub once_nil : (xs : List Run) → Once xs → Once (xs ++ [])
-once_nil [] h = tt
-once_nil (x ∷ xs) h = (begins_append xs [] x.start h.0 refl, once_nil xs h.1)
-
 -- one more, whose begin is new
 pub once_more : (xs : List Run) (r : Run) → Once xs → begins_at xs r.start ≡ false → Once (xs ++ (r ∷ []))
 once_more [] r h n = (refl, tt)
@@ -121,24 +118,20 @@ module _ {cs : List Cell} {latest : ℕ → Option ℕ} {grants : ℕ → Option
   -- a live run is in the painted ones wholly or not at all
   pub wholly : {k : ℕ} {w : Run} (rs : List Run) → AllLive cs latest grants rs → Live cs latest grants k w → (g₀ : ℕ) → w.start ≤ g₀ → g₀ < w.start + w.length → in_runs rs g₀ ≡ false
       → (g : ℕ) → w.start ≤ g → g < w.start + w.length → in_runs rs g ≡ false
-  wholly {k} {w} rs al l g₀ lo₀ hi₀ out g lo hi = elim (cases_Bool (in_runs rs g)) [
-    | inl y ↦ let (r, am, rlo, rhi) = among_in rs g y in
-        let s = same_run l (al r am).1 g lo hi rlo rhi in
-        cc (in_among rs r g₀ am (omega arith) (omega arith))
-    | inr n ↦ n
-  ]
+  wholly {k} {w} rs al l g₀ lo₀ hi₀ out g lo hi = false_from_ne_true _ λ y.
+      let (r, am, rlo, rhi) = among_in rs g y in
+      let s = same_run l (al r am).1 g lo hi rlo rhi in
+      cc (in_among rs r g₀ am (omega arith) (omega arith))
 
   -- live runs that begin at different granules share none
   pub disjoint : (rs : List Run) → AllLive cs latest grants rs → Once rs → Disjoint rs
   disjoint [] al o = tt
   disjoint (r ∷ rs) al o = (
-    (λ g e. elim (cases_Bool (in_runs rs g)) [
-      | inl y ↦ let (x, am, lo, hi) = among_in rs g y in
-          let h = within_true r.start r.length g e in
-          let s = same_run (al r (inl refl)).1 (al x (inr am)).1 g h.0 h.1 lo hi in
-          cc (begins_among rs x am)
-      | inr n ↦ n
-    ]),
+    (λ g e. false_from_ne_true _ λ y.
+        let (x, am, lo, hi) = among_in rs g y in
+        let h = within_true r.start r.length g e in
+        let s = same_run (al r (inl refl)).1 (al x (inr am)).1 g h.0 h.1 lo hi in
+        cc (begins_among rs x am)),
     disjoint rs (λ x a. al x (inr a)) o.1,
   )
 
@@ -197,15 +190,8 @@ module _ (cs : List Cell) (latest : ℕ → Option ℕ) (grants : ℕ → Option
   abbrev pub more : ℕ → Option Grant
   more = put_at grants k₀ (Some (record { to = to; whole = whole }))
 
-  pub room_free : (g : ℕ) → b ≤ g → g < b + n → get_or cs g Free ≡ Free
-  room_free g lo hi =
-      let e : b + (g - b) ≡ g = omega arith in
-      known cs g (omega (arith, room.0)) (ap (λ (x : ℕ). get_or cs x Rest) (sym e) ∙ room.1 (g - b) (omega arith))
-    where
-      known : (xs : List Cell) (i : ℕ) → i < length xs → get_or xs i Rest ≡ Free → get_or xs i Free ≡ Free
-      known [] i lt e = absurd (let f : ⊥ = omega arith in f)
-      known (x ∷ xs) zero lt e = e
-      known (x ∷ xs) (suc i) lt e = known xs i (omega arith) e
+  room_free : (g : ℕ) → b ≤ g → g < b + n → get_or cs g Free ≡ Free
+  room_free = (room_of cs b n room).1
 
   spans : (base_of whole ≡ 16 * b) × (top_of whole ≡ 16 * b + 16 * n)
   spans = let m = made_numbers _ _ _ whole made in (m.0, m.1)
@@ -222,7 +208,7 @@ module _ (cs : List Cell) (latest : ℕ → Option ℕ) (grants : ℕ → Option
   }
     where
       outside : (g : ℕ) → w.start ≤ g → g < w.start + w.length → within b n g ≡ false
-      outside g lo hi = elim (cases_Bool (within b n g)) [ inl y ↦ absurd (let q = within_true b n g y in live_taken l g lo hi (room_free g q.0 q.1)) | inr x ↦ x ]
+      outside g lo hi = false_from_ne_true _ λ y. let q = within_true b n g y in live_taken l g lo hi (room_free g q.0 q.1)
 
       apart : (i : ℕ) → within b n (i / 16) ≡ false → (leb (base_of whole) i && ltb i (top_of whole)) ≡ false
       apart i o = let s = spans in go (base_of whole) (top_of whole) s.0 s.1

@@ -1,9 +1,8 @@
 -- When runs become free.
-use Rattle.std.proofs.Common.{◌≡◌, ℕ, ◌+◌, ◌-◌, ◌<◌, ◌≤◌, Bool, true, false, cond, eqb, ◌⊎◌, List, [], ◌∷◌, ◌++◌, length, get_or, Ok, sym, refl, ap, ◌∙◌, subst, inl, inr, add-zero, arith}
-use Rattle.std.proofs.lemmas.List.{append_assoc, append-nil, get_or_default}
+use Rattle.std.proofs.Common.{◌≡◌, ℕ, ◌+◌, ◌<◌, ◌≤◌, Bool, true, false, cond, eqb, ◌⊎◌, List, [], ◌∷◌, ◌++◌, length, get_or, Ok, sym, refl, ap, ◌∙◌, subst, inl, inr, add-zero, arith}
+use Rattle.std.proofs.lemmas.List.{append_assoc, append-nil}
 use Rattle.std.proofs.lemmas.Bool.{cases_Bool, cond-true, cond-false}
 use Rattle.allocator.specs.declared.cell.Cell.TheVariants.{Free, First, Rest}
-use Rattle.allocator.specs.Maps.{FreeAt}
 use Rattle.authority.specs.Capabilities.{base_of}
 use Rattle.machine.specs.Calls.{Call}
 use Rattle.machine.specs.Model.{Effect, Fixed, State, fresh_state, outcome, state_after}
@@ -16,11 +15,12 @@ use Rattle.history.specs.Ledgers.{Ledger, empty_ledger, note, noted_all}
 use Rattle.history.specs.Provenance.{ledger}
 use Rattle.history.specs.Release.{FreedBySweep, IsFree, MemoryReturnsWhenTheSweepEnds, NoShut, NoShuts, NoneFree, Returns, Waits, granules_named, granules_named_in, granules_since, outcomes_since, run_from}
 use Rattle.history.proofs.Authorities.{made_numbers}
-use Rattle.history.proofs.Base.{Among, within, among_append, among_left, among_right, ok_same, within_true}
+use Rattle.history.proofs.Base.{Among, among_append, among_left, among_push, among_right, ok_same, within, within_true}
 use Rattle.history.proofs.Invariant.{Inv, Live}
 use Rattle.history.proofs.Changes.{painted_released}
 use Rattle.history.proofs.Laws.{get_taken, in_among}
 use Rattle.history.proofs.Live.{among_in, live_taken}
+use Rattle.history.proofs.Rooms.{Room, room_of}
 use Rattle.history.proofs.Steps.{inv_fresh, inv_run, inv_step}
 use Rattle.history.proofs.View.{View, v_no, v_grant, v_free, v_open, v_pass, v_end, v_shut, view}
 
@@ -53,9 +53,6 @@ module _ {K : Fixed} {s : State} {b : Ledger} (v : Inv K s b) where
       let m = made_numbers _ _ _ l.whole l.made in
       let n = (v.numbered _ _ l.granted).1 in
       (l.some, omega (arith, l.some, m.1))
-
-among_nil : (rs : List Run) (r : Run) → Among r (rs ++ []) → Among r rs
-among_nil rs r h = elim (among_append rs [] r h) [ inl q ↦ q | inr q ↦ absurd q ]
 
 -- what a call leaves of the runs in quarantine: all but those that a sweep's end frees
 stays : (K : Fixed) (s : State) (b : Ledger) → Inv K s b → {x : Call} {d : Effect} → View K s x d → (r : Run) → Among r (s.painted ++ s.waiting) → NoneFree (state_after s d) r
@@ -199,12 +196,9 @@ joined_by : (K : Fixed) (s : State) {x : Call} {d : Effect} → View K s x d →
     → Among r (s.painted ++ s.waiting) ⊎ ((c n at : ℕ) × (x ≡ Call.Free c n) × (outcome d ≡ Ok at) × (r ≡ run_from s at))
 joined_by K s (v_free {c} {r = n} a hc hr e own al whole w) r am = elim (among_append s.painted _ r am) [
   | inl h ↦ inl (among_left s.painted _ r h)
-  | inr h ↦ elim (among_append s.waiting _ r h) [
-    | inl q ↦ inl (among_right s.painted _ r q)
-    | inr q ↦ elim q [ inl z ↦ inr (c, n, base_of a, refl, refl, z) | inr z ↦ absurd z ]
-  ]
+  | inr h ↦ elim (among_push s.waiting _ r h) [ inl q ↦ inl (among_right s.painted _ r q) | inr z ↦ inr (c, n, base_of a, refl, refl, z) ]
 ]
-joined_by K s (v_open e) r am = inl (among_right s.painted _ r (among_nil s.waiting r am))
+joined_by K s (v_open e) r am = inl (among_right s.painted _ r (rw append-nil at am))
 joined_by K s (v_end p pos e le) r am = inl (among_right s.painted _ r am)
 joined_by K s _ r am = inl am
 
@@ -407,16 +401,12 @@ frees : (K : Fixed) (s : State) (b : Ledger) → Inv K s b → {x : Call} {d : E
     → (k n : ℕ) × (x ≡ Call.Step k) × (s.sweep ≡ Open n) × (K.memory_granules ≤ n + k) × (in_runs s.painted g ≡ true)
 frees K s b v (v_grant {n = n} at next hc hr pos same e) g t f = absurd (t (was (within at n g) refl))
   where
-    room : FreeAt s.cells at n
-    room = K.lawful.answered s.cells s.mark n at next pos e
+    room : Room s.cells at n
+    room = room_of s.cells at n (K.lawful.answered s.cells s.mark n at next pos e)
 
     was : (y : Bool) → within at n g ≡ y → IsFree s g
-    was true q =
-        let w = within_true at n g q in
-        let z : at + (g - at) ≡ g = omega arith in
-        let h = room.1 (g - at) (omega arith) in
-        ap (λ i. get_or s.cells i Free) (sym z) ∙ (get_or_default s.cells (at + (g - at)) Free Rest (omega (arith, room.0)) ∙ h)
-    was false q = sym (cond-false (within at n g) (cond (eqb g at) First Rest) (get_or s.cells g Free) q) ∙ (sym (get_taken s.cells at n g pos room.0) ∙ f)
+    was true q = let w = within_true at n g q in room.1 g w.0 w.1
+    was false q = cc (cond-false (within at n g) (cond (eqb g at) First Rest) (get_or s.cells g Free) q, get_taken s.cells at n g pos room.0)
 frees K s b v (v_end {k} p pos e le) g t f = elim (cases_Bool (in_runs s.painted g)) [
   | inl y ↦ (k, p, refl, e, le, y)
   | inr y ↦ absurd (t (sym (cond-false (in_runs s.painted g) Free (get_or s.cells g Free) y) ∙ (sym (painted_released K s b v g) ∙ f)))

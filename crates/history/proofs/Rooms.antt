@@ -1,5 +1,6 @@
 -- Room for a new run, and the bytes of its granules.
-use Rattle.std.proofs.Common.{◌≡◌, ℕ, zero, suc, ◌+◌, ◌-◌, ◌*◌, ◌/◌, ◌<◌, ◌≤◌, true, ◌&&◌, ltb, leb, List, [], ◌∷◌, length, get_or, refl, subst, arith}
+use Rattle.std.proofs.Common.{◌≡◌, ℕ, ◌+◌, ◌-◌, ◌*◌, ◌/◌, ◌<◌, ◌≤◌, true, ◌&&◌, ltb, leb, List, length, get_or, arith}
+use Rattle.std.proofs.lemmas.List.{get_or_default}
 use Rattle.std.proofs.lemmas.Bool.Decides.{nat_tests}
 use Rattle.allocator.specs.declared.cell.Cell.{Cell}
 use Rattle.allocator.specs.declared.cell.Cell.TheVariants.{Free, Rest}
@@ -10,13 +11,10 @@ use Rattle.allocator.specs.Maps.{FreeAt}
 abbrev pub Room : List Cell → ℕ → ℕ → Type 0
 Room cs b n = (b + n ≤ length cs) × ((g : ℕ) → b ≤ g → g < b + n → get_or cs g Free ≡ Free)
 
-free_any : (cs : List Cell) (i : ℕ) → get_or cs i Rest ≡ Free → get_or cs i Free ≡ Free
-free_any [] i e = refl
-free_any (x ∷ cs) zero e = e
-free_any (x ∷ cs) (suc i) e = free_any cs i e
-
-pub room : (cs : List Cell) (b n : ℕ) → FreeAt cs b n → Room cs b n
-room cs b n f = (f.0, λ g lo hi. let z : b + (g - b) ≡ g = omega arith in free_any cs g (subst (λ (x : ℕ). get_or cs x Rest ≡ Free) z (f.1 (g - b) (omega arith))))
+pub room_of : (cs : List Cell) (b n : ℕ) → FreeAt cs b n → Room cs b n
+room_of cs b n f = (f.0, λ g lo hi.
+    let z : b + (g - b) ≡ g = omega arith in
+    cc (f.1 (g - b) (omega arith), get_or_default cs g Free Rest (omega (arith, f.0))))
 
 -- the bytes of a new run
 

@@ -1,12 +1,11 @@
 -- Free granules are clean, and no capability crosses between group and others.
 use Rattle.std.proofs.Common.{◌≡◌, ℕ, ◌+◌, ◌-◌, ◌*◌, ◌/◌, ◌<◌, ◌≤◌, Bool, true, false, cond, ◌&&◌, eqb, ltb, leb, List, get_or, set, Some, None, Option, sym, refl, ap, ◌∙◌, subst, inl, inr, arith}
 use lib.Seq.{paste}
-use Rattle.std.proofs.lemmas.Bool.{cases_Bool, cond-false, cond-true, eq-eqb, eqb-true, ne_eqb}
+use Rattle.std.proofs.lemmas.Bool.{cases_Bool, cond-false, cond-true, eq-eqb, eqb-true, ne_eqb, false_from_ne_true}
 use Rattle.allocator.specs.declared.cell.Cell.{Cell}
 use Rattle.allocator.specs.declared.cell.Cell.TheVariants.{Free, First, Rest}
 use Rattle.allocator.specs.Maps.{run_of}
 use Rattle.authority.specs.Capabilities.{base_of, top_of}
-use Rattle.authority.specs.Images.{word_at}
 use Rattle.authority.specs.declared.capability.Capability.{Capability}
 use Rattle.machine.specs.Calls.{Call}
 use Rattle.machine.specs.Model.{Fixed, State, Effect, outcome, state_after, with_register, with_register_in, with_map, with_byte, with_capability, with_passed, with_ended}
@@ -16,13 +15,13 @@ use Rattle.quarantine.specs.declared.run.Run.{Run}
 use Rattle.history.specs.Isolation.{Group, GivesApart}
 use Rattle.history.specs.Ledgers.{Entry, Grant, Ledger, derived_entry, granted, loaded, note, slot, stored, with_entry, with_grant, with_granule, with_provenance}
 use Rattle.history.proofs.Authorities.{made_numbers}
-use Rattle.history.proofs.Base.{some_same, within, within_true}
+use Rattle.history.proofs.Base.{not_cleared, some_same, within, within_true}
 use Rattle.history.proofs.Changes.{inv_pass, painted_released, painted_wiped_bytes, painted_wiped_tags, whole_made}
 use Rattle.history.proofs.Invariant.{Inv, Sound}
 use Rattle.history.proofs.Laws.{get_image, get_swept, get_taken, reg, reg_emptied, reg_in, reg_put, reg_slot, slot_row}
 use Rattle.history.proofs.Live.{live_taken, sound_span}
 use Rattle.history.proofs.Places.{get_set}
-use Rattle.history.proofs.Rooms.{Room, room, span_in, span_same}
+use Rattle.history.proofs.Rooms.{Room, room_of, span_in, span_same}
 use Rattle.history.proofs.Steps.{reg_top}
 use Rattle.history.proofs.View.{View, v_no, v_grant, v_free, v_derive, v_getb, v_putb, v_putc, v_getc, v_give, v_drop, v_open, v_pass, v_end, v_shut}
 
@@ -38,11 +37,7 @@ pub record Tidy (m : Group) (s : State) (b : Ledger) : Type 0 where
   pub reg_side : (i : ℕ) (a : Capability) → reg s i ≡ Some a → Side m b.grants (b.registers i) (m (i / 8))
   pub mem_side : (g k : ℕ) (w : Grant) → get_or s.tags g false ≡ true → b.latest (16 * g) ≡ Some k → b.grants k ≡ Some w → Side m b.grants (b.granules g) (m w.to)
 
--- a tag that a change may only have cleared
-untouched : (t : Bool) {y : Bool} → cond t false y ≡ true → y ≡ true
-untouched true e = cc
-untouched false e = e
-
+-- a tag that is off, after a change that may only have cleared it
 clear_still : (t : Bool) {y : Bool} → y ≡ false → cond t false y ≡ false
 clear_still true e = refl
 clear_still false e = e
@@ -95,7 +90,7 @@ module _ (m : Group) (K : Fixed) (s : State) (b : Ledger) (v : Inv K s b) (d : T
     dated = d.dated;
     even = d.even;
     reg_side = d.reg_side;
-    mem_side = λ g k w t. d.mem_side g k w (untouched (eqb g (a / 16)) (sym (tag g) ∙ t));
+    mem_side = λ g k w t. d.mem_side g k w (not_cleared _ (sym (tag g) ∙ t)).1;
   }
     where
       tag : (g : ℕ) → get_or (set s.tags (a / 16) false) g false ≡ cond (eqb g (a / 16)) false (get_or s.tags g false)
@@ -181,7 +176,7 @@ module _ (m : Group) (K : Fixed) (s : State) (b : Ledger) (v : Inv K s b) (d : T
   tidy_fewer : (t : State) → t.cells ≡ s.cells → t.bytes ≡ s.bytes → ((g : ℕ) → get_or t.tags g false ≡ true → get_or s.tags g false ≡ true)
       → ((i : ℕ) (a : Capability) → reg t i ≡ Some a → reg s i ≡ Some a) → Tidy m t b
   tidy_fewer t es eb ht hr = record {
-    free_tags = λ g e. elim (cases_Bool (get_or t.tags g false)) [ inl y ↦ cc (ht g y, d.free_tags g (ap (λ (l : List Cell). get_or l g Free) (sym es) ∙ e)) | inr n ↦ n ];
+    free_tags = λ g e. false_from_ne_true _ λ y. cc (ht g y, d.free_tags g (ap (λ (l : List Cell). get_or l g Free) (sym es) ∙ e));
     free_bytes = λ i e. ap (λ (l : List ℕ). get_or l i 0) eb ∙ d.free_bytes i (ap (λ (l : List Cell). get_or l (i / 16) Free) (sym es) ∙ e);
     dated = d.dated;
     even = d.even;
@@ -202,12 +197,12 @@ module _ (m : Group) (K : Fixed) (s : State) (b : Ledger) (v : Inv K s b) (d : T
     dated = d.dated;
     even = d.even;
     reg_side = d.reg_side;
-    mem_side = λ g k w x. d.mem_side g k w (untouched (in_runs s.painted g) (sym (painted_wiped_tags K s b v g) ∙ x));
+    mem_side = λ g k w x. d.mem_side g k w (not_cleared _ (sym (painted_wiped_tags K s b v g) ∙ x)).1;
   }
 
   pub tidy_pass : (p k : ℕ) → Tidy m (with_passed s p k) b
   tidy_pass p k = tidy_fewer (with_passed s p k) refl refl
-      (λ g x. untouched (within p k g && in_runs s.painted (word_at s.bytes (16 * g) / 16)) (sym (get_swept s.painted s.bytes p k g s.tags) ∙ x)) (λ i a e. e)
+      (λ g x. (not_cleared _ (sym (get_swept s.painted s.bytes p k g s.tags) ∙ x)).1) (λ i a e. e)
 
 derived_side : (m : Group) (grants : ℕ → Option Grant) (o : Option Entry) (lo len p : ℕ) (y : Bool) → Side m grants o y → Side m grants (derived_entry o lo len p) y
 derived_side m grants None lo len p y h n w e has = cc
@@ -229,7 +224,7 @@ pub tidy_step : (m : Group) (K : Fixed) (s : State) (b : Ledger) → Inv K s b �
     → Tidy m (state_after s d) (note b x (outcome d))
 tidy_step m K s b v t gift v_no = t
 tidy_step m K s b v t gift (v_grant {c} {r} {n} at next hc hr pos same e) =
-    let rm = room s.cells at n (K.lawful.answered s.cells s.mark n at next pos e) in
+    let rm = room_of s.cells at n (K.lawful.answered s.cells s.mark n at next pos e) in
     let w = whole_made (16 * at) (16 * at + 16 * n) (omega arith) (omega (arith, rm.0, v.l_cells, same, v.sized)) in
     let z = made_numbers _ _ _ w.0 w.1 in
     subst (λ (o : Option Capability). Tidy m (with_register (with_map s (paste s.cells at (run_of n) n) next) c r o) (granted b c r o)) (sym w.1)
