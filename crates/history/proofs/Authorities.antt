@@ -57,7 +57,7 @@ between_numbers : (x y : ℕ) → (bounds_between x y).base < (bounds_between x 
 unfolding bounds_between
 between_numbers x y h = elim (cases_Bool (ltb x y)) [
   | inl t ↦ (cond-true (ltb x y) x 0 t, cond-true (ltb x y) y 0 t)
-  | inr n ↦ let p = cond-false (ltb x y) x 0 n in let q = cond-false (ltb x y) y 0 n in absurd (let f : ⊥ = omega arith in f)
+  | inr n ↦ let p = cond-false (ltb x y) x 0 n in let q = cond-false (ltb x y) y 0 n in absurd (omega arith)
 ]
 
 -- three numbers that make a capability are its own

@@ -103,7 +103,7 @@ module _ (K : Fixed) (s : State) (b : Ledger) (v : Inv K s b) where
     numbered = v.numbered;
     idle = λ e. cc;
     regs_new = λ j a e. (kept (reg s j) a (sym (there j) ∙ e)).1;
-    tags_new = λ p e. let z : 0 ≡ p = cc in (omega arith, λ g lt t. absurd (let f : ⊥ = omega arith in f));
+    tags_new = λ p e. let z : 0 ≡ p = cc in (omega arith, λ g lt t. absurd (omega arith));
   }
     where
       there : (j : ℕ) → reg (with_painted s) j ≡ survivor s.waiting (reg s j)

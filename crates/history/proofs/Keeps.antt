@@ -39,7 +39,7 @@ use Rattle.history.proofs.Live.{sound_span}
 use Rattle.history.proofs.Rooms.{room_of}
 use Rattle.history.proofs.Steps.{reg_top}
 use Rattle.history.proofs.Tidy.{Tidy, tidy_pass}
-use Rattle.history.proofs.View.{View, granule_is, register_is, v_no, v_free, view}
+use Rattle.history.proofs.View.{View, granting_is, granule_is, register_is, registers_are, v_free, v_no, view}
 
 -- the same denial, or two accepted changes that R relates
 pub data Match (R : ℕ → ℕ → State → State → Type 0) : Effect → Effect → Type 0 where
@@ -242,16 +242,12 @@ module _ (m : Group) (K : Fixed) (s t : State) (b c : Ledger) (v : Inv K s b) (v
 
   two_calls : (x : Call) → is_struck m x ≡ false → GivesApart m x → (is_ours m x ≡ true → outcome (perform K s x) ≡ outcome (perform K t x)) → Match (Agrees x) (perform K s x) (perform K t x)
   two_calls (Call.Grant n r k) st gift own = two_unless _ _ _ refl λ num. two_unless _ _ _ refl λ same.
-      let p = and_parts (is_register n r) (is_operand k && ltb 0 k) num in
-      let q = register_is n r p.0 in
-      let z = and_parts (is_operand k) (ltb 0 k) p.1 in
-      two_grant n r k q.0 q.1 (ltb-true 0 k z.1) (eqb-true _ _ same)
+      let q = granting_is n r k num in
+      two_grant n r k q.0 q.1 q.2 (eqb-true _ _ same)
   two_calls (Call.Free n r) st gift own = two_frees n r (m n) refl own
   two_calls (Call.Derive n r u lo len p) st gift own = two_unless _ _ _ refl λ num. two_permitted (permissions_from p) λ ps.
-      let x = and_parts (is_register n r) (is_register n u && (is_operand lo && is_operand len)) num in
-      let y = and_parts (is_register n u) (is_operand lo && is_operand len) x.1 in
-      let q = register_is n r x.0 in
-      two_held _ _ (regs_same n u (register_is n u y.0).1 st) λ a e e'.
+      let q = registers_are n r n u (is_operand lo && is_operand len) num in
+      two_held _ _ (regs_same n u q.3 st) λ a e e'.
       two_narrowed s t n r (capability_over (meet_authority a.authority (wanted a lo len ps))) λ w.
       (refl, core_reg m K s t b c v v' d d' o n r q.0 q.1 (Some w) _ _)
   two_calls (Call.Getb n r off) st gift own = two_unless _ _ _ refl λ num.
@@ -271,10 +267,8 @@ module _ (m : Group) (K : Fixed) (s t : State) (b c : Ledger) (v : Inv K s b) (v
       two_memory _ _ (λ i. change_at (base_of a + off) (l_bytes i)) λ _ _.
       m_ok (refl, core_byte m K s t b c v v' d d' o (base_of a + off) x (omega (arith, lt, reg_top K s b v (slot n r) a (sym (reg_slot s n r q.1) ∙ e))))
   two_calls (Call.Putc n r off u) st gift own = two_unless _ _ _ refl λ num.
-      let x = and_parts (is_register n r) (is_register n u && is_operand off) num in
-      let q = register_is n r x.0 in
-      let w = register_is n u (and_parts (is_register n u) (is_operand off) x.1).0 in
-      two_held _ _ {k = λ a. held (register_at s n u) (putc_from s off a)} {l = λ a. held (register_at t n u) (putc_from t off a)} (regs_same n r q.1 st) λ a e e'. two_held _ _ {k = putc_from s off a} {l = putc_from t off a} (regs_same n u w.1 st) λ a₂ e₂ e₂'. two_unless _ _ _ refl λ perm.
+      let q = registers_are n r n u (is_operand off) num in
+      two_held _ _ {k = λ a. held (register_at s n u) (putc_from s off a)} {l = λ a. held (register_at t n u) (putc_from t off a)} (regs_same n r q.1 st) λ a e e'. two_held _ _ {k = putc_from s off a} {l = putc_from t off a} (regs_same n u q.3 st) λ a₂ e₂ e₂'. two_unless _ _ _ refl λ perm.
       two_granule (granule_answer a off) {k = putc_at s a₂} {l = putc_at t a₂} λ g at.
       two_memory _ _ (λ i. cond (ltb g (l_tags i)) (stored_answer (reaching (l_bytes i) (capability_of (base_of a₂) (top_of a₂) (permissions_of a₂)))) (Err T.Bounds)) λ _ _.
       let h = granule_is a off g at in
@@ -288,9 +282,7 @@ module _ (m : Group) (K : Fixed) (s t : State) (b c : Ledger) (v : Inv K s b) (v
             (core_cap m K s t b c v v' d d' o ((base_of a + off) / 16) a₂ _ _ (omega (arith, h.0, reg_top K s b v (slot n r) a e₀))))),
       )
   two_calls (Call.Getc n r off u) st gift own = two_unless _ _ _ refl λ num.
-      let x = and_parts (is_register n r) (is_register n u && is_operand off) num in
-      let q = register_is n r x.0 in
-      let w = register_is n u (and_parts (is_register n u) (is_operand off) x.1).0 in
+      let q = registers_are n r n u (is_operand off) num in
       two_held _ _ {k = getc_from s n off u} {l = getc_from t n off u} (regs_same n r q.1 st) λ a e e'. two_unless _ _ _ refl λ perm.
       two_granule (granule_answer a off) {k = getc_at s n u} {l = getc_at t n u} λ g at.
       let h = granule_is a off g at in
@@ -304,7 +296,7 @@ module _ (m : Group) (K : Fixed) (s t : State) (b c : Ledger) (v : Inv K s b) (v
         refl,
         subst (λ (j : Option Entry). Core m (with_register s n u (Some a₂)) (with_register t n u (Some a₂)) (noted_load b j off (slot n u)) (noted_load c (c.registers (slot n r)) off (slot n u))) (sym (v.regs (slot n r) a e₀).recorded)
             (subst (λ (j : Option Entry). Core m (with_register s n u (Some a₂)) (with_register t n u (Some a₂)) (with_entry b (slot n u) (b.granules ((base_of a + off) / 16))) (noted_load c j off (slot n u))) (sym (v'.regs (slot n r) a f₀).recorded)
-            (core_reg m K s t b c v v' d d' o n u q.0 w.1 (Some a₂) _ _)),
+            (core_reg m K s t b c v v' d d' o n u q.0 q.3 (Some a₂) _ _)),
       )
   two_calls (Call.Give n r n' u) st gift own = two_unless _ _ _ refl λ num.
       let x = and_parts (is_register n r) (is_register n' u) num in

@@ -125,7 +125,7 @@ module _ (K : Fixed) (s : State) (m : ℕ) (sw : s.sweep ≡ Open m) where
   on_step : {x : Call} {d : Effect} → View K s x d → NoShut x (outcome d) → m + granules_named x (outcome d) < K.memory_granules → On s (state_after s d) m (granules_named x (outcome d))
   on_step (v_open e) h lt = cc
   on_step (v_pass {k} p pos e l) h lt = let z : p ≡ m = cc in (ap (λ (n : ℕ). Open (n + k)) z, refl)
-  on_step (v_end {k} p pos e l) h lt = let z : p ≡ m = cc in absurd (let f : ⊥ = omega arith in f)
+  on_step (v_end {k} p pos e l) h lt = let z : p ≡ m = cc in absurd (omega arith)
   on_step (v_shut p e) h lt = absurd h
   on_step _ h lt = stay
 
@@ -145,7 +145,7 @@ on_run K (x ∷ q) s m sw h lt =
 at_end : (K : Fixed) (s : State) (b : Ledger) → Inv K s b → (m k : ℕ) → s.sweep ≡ Open m → K.memory_granules ≤ m + k → {d : Effect} → View K s (Call.Step k) d → (a : ℕ) → outcome d ≡ Ok a
     → (g : ℕ) → in_runs s.painted g ≡ true → get_or (state_after s d).cells g Free ≡ Free
 at_end K s b v m k sw le v_no a q g i = cc
-at_end K s b v m k sw le (v_pass p pos e lt) a q g i = let z : p ≡ m = cc in absurd (let f : ⊥ = omega arith in f)
+at_end K s b v m k sw le (v_pass p pos e lt) a q g i = let z : p ≡ m = cc in absurd (omega arith)
 at_end K s b v m k sw le (v_end p pos e l) a q g i = painted_released K s b v g ∙ cond-true _ _ _ i
 
 opened : (K : Fixed) (s : State) (b : Ledger) → Inv K s b → {d : Effect} → View K s Call.OpenSweep d → (a : ℕ) → outcome d ≡ Ok a
@@ -319,12 +319,12 @@ pub record Opened (K : Fixed) (p : List Call) (n : ℕ) : Type 0 where
   pub runs : (after K p).painted ≡ (after K before).waiting
 
 outcomes_more : (K : Fixed) (s : State) (xs : List Call) (x : Call) → granules_named_in (xs ++ (x ∷ [])) (outcomes K s (xs ++ (x ∷ []))) ≡ granules_named_in xs (outcomes K s xs) + granules_named x (outcome (perform K (state_after_all K s xs) x))
-outcomes_more K s [] x = let z : granules_named x (outcome (perform K s x)) + 0 ≡ 0 + granules_named x (outcome (perform K s x)) = omega arith in z
+outcomes_more K s [] x = omega arith
 outcomes_more K s (y ∷ xs) x =
     let t = state_after s (perform K s y) in
     let m = granules_named y (outcome (perform K s y)) in
     let ih = outcomes_more K t xs x in
-    ap (λ k. m + k) ih ∙ (let z : m + (granules_named_in xs (outcomes K t xs) + granules_named x (outcome (perform K (state_after_all K t xs) x))) ≡ m + granules_named_in xs (outcomes K t xs) + granules_named x (outcome (perform K (state_after_all K t xs) x)) = omega arith in z)
+    omega arith
 
 shuts_more : (K : Fixed) (s : State) (xs : List Call) (x : Call) → NoShuts xs (outcomes K s xs) → NoShut x (outcome (perform K (state_after_all K s xs) x)) → NoShuts (xs ++ (x ∷ [])) (outcomes K s (xs ++ (x ∷ [])))
 shuts_more K s [] x h k = (k, tt)
@@ -343,7 +343,7 @@ pub record Went (K : Fixed) (s : State) (x : Call) (d : Effect) (n : ℕ) : Type
   pub same : (state_after s d).painted ≡ s.painted
 
 went : (K : Fixed) (s : State) {x : Call} {d : Effect} → View K s x d → (n : ℕ) → (state_after s d).sweep ≡ Open n → Went K s x d n ⊎ ((x ≡ Call.OpenSweep) × (n ≡ 0) × ((a : ℕ) × (outcome d ≡ Ok a)) × ((state_after s d).painted ≡ s.waiting))
-went K s (v_open q) n e = inr (refl, (let z : n ≡ 0 = cc in z), (length s.waiting, refl), refl)
+went K s (v_open q) n e = inr (refl, cc, (length s.waiting, refl), refl)
 went K s (v_pass {k} p pos q lt) n e = let z : p + k ≡ n = cc in inl (record { was = p; opens = q; moved = sym z; no_shut = tt; near = inr (omega arith); same = refl })
 went K s (v_end p pos q le) n e = cc
 went K s (v_shut p q) n e = cc
