@@ -3,7 +3,7 @@ use Rattle.std.proofs.Common.{◌≡◌, ℕ, zero, suc, ◌+◌, ◌-◌, ◌*�
 use lib.Seq.{paste}
 use Rattle.std.proofs.lemmas.List.Edits.{length-paste}
 use Rattle.std.proofs.lemmas.List.{get_or_default, get_or-drop, get_or_past, get_or-replicate, get_or-set_other, get_or-set_same, length-map, length-set, places}
-use Rattle.std.proofs.lemmas.Bool.{cases_eq, cases_lt, cond-false, cond-true, eq-eqb, lt-ltb, ne_eqb, or_right, false_from_ne_true}
+use Rattle.std.proofs.lemmas.Bool.{cases_eq, cases_lt, cond-false, cond-true, eq-eqb, lt-ltb, ne_eqb, or_right, false_from_ne_true, cases_Bool}
 use Rattle.std.proofs.lemmas.Bool.Decides.{nat_tests}
 use Rattle.allocator.specs.Allocators.{Allocation, releasing}
 use Rattle.allocator.specs.declared.cell.Cell.{Cell}
@@ -253,33 +253,16 @@ length_swept rs bs p (suc k) ts = one (get_or ts' (p + k) false && in_runs rs (w
 
 -- one granule passed
 swept_one : (rs : List Run) (bs : List ℕ) (q g : ℕ) (ts : List Bool) → get_or (swept_tag rs bs q ts) g false ≡ cond (eqb g q && in_runs rs (word_at bs (16 * g) / 16)) false (get_or ts g false)
-swept_one rs bs q g ts = elim (cases_eq g q) [
-  | inl e ↦ ap (λ (k : ℕ). get_or (swept_tag rs bs q ts) k false) e ∙ (here (get_or ts q false) (in_runs rs (word_at bs (16 * q) / 16)) refl
-      ∙ (ap (λ (k : ℕ). cond (in_runs rs (word_at bs (16 * k) / 16)) false (get_or ts k false)) (sym e) ∙ sym (ap (λ (t : Bool). cond (t && in_runs rs (word_at bs (16 * g) / 16)) false (get_or ts g false)) (eq-eqb g q e))))
-  | inr n ↦ other n (get_or ts q false && in_runs rs (word_at bs (16 * q) / 16)) ∙ sym (ap (λ (t : Bool). cond (t && in_runs rs (word_at bs (16 * g) / 16)) false (get_or ts g false)) (ne_eqb g q n))
-]
+swept_one rs bs q g ts = grind (arith, nat_tests, cases_Bool, cleared, get_or-set_other {A = Bool})
   where
-    cleared : get_or (set ts q false) q false ≡ false
-    cleared = search (rules, places)
-
-    here : (t x : Bool) → get_or ts q false ≡ t → get_or (cond (t && x) (set ts q false) ts) q false ≡ cond x false t
-    here true true e = cleared
-    here true false e = e
-    here false true e = e
-    here false false e = e
-
-    other : g ≢ q → (t : Bool) → get_or (cond t (set ts q false) ts) g false ≡ get_or ts g false
-    other n true = get_or-set_other ts q g false false n
-    other n false = refl
+    cleared : (ts : List Bool) (q : ℕ) → get_or (set ts q false) q false ≡ false
+    cleared ts q = search (rules, places)
 
 swept_more : (p k g : ℕ) (x y : Bool) → cond (eqb g (p + k) && x) false (cond (within p k g && x) false y) ≡ cond (within p (suc k) g && x) false y
 swept_more p k g x y = grind (arith, nat_tests)
 
 pub get_swept : (rs : List Run) (bs : List ℕ) (p k g : ℕ) (ts : List Bool) → get_or (swept_tags rs bs p k ts) g false ≡ cond (within p k g && in_runs rs (word_at bs (16 * g) / 16)) false (get_or ts g false)
-get_swept rs bs p zero g ts = sym (cond-false (within p zero g && in_runs rs (word_at bs (16 * g) / 16)) _ _ (none p g (in_runs rs (word_at bs (16 * g) / 16))))
-  where
-    none : (p g : ℕ) (x : Bool) → (within p zero g && x) ≡ false
-    none p g x = grind (arith, nat_tests)
+get_swept rs bs p zero g ts = grind (arith, nat_tests)
 get_swept rs bs p (suc k) g ts =
     swept_one rs bs (p + k) g (swept_tags rs bs p k ts)
     ∙ (ap (λ (x : Bool). cond (eqb g (p + k) && in_runs rs (word_at bs (16 * g) / 16)) false x) (get_swept rs bs p k g ts)
@@ -364,20 +347,13 @@ freed r cs = paste cs r.start (replicate r.length Free) r.length
 
 -- a run of the map lies inside it
 whole_inside : (cs : List Cell) (r : Run) → WholeRun cs r → r.start + r.length ≤ length cs
-whole_inside cs r w = elim (cases_lt (r.start + r.length - 1) (length cs)) [
-  | inl h ↦ (let p = w.some in omega arith)
-  | inr h ↦ (let p = w.some in absurd (never (eqb (r.start + r.length - 1) r.start) (sym (w.cells (r.start + r.length - 1) (omega arith) (omega arith)) ∙ get_or_past cs (r.start + r.length - 1) Free h)))
-]
-  where
-    never : (t : Bool) → cond t First Rest ≡ Free → ⊥
-    never true e = cc
-    never false e = cc
+whole_inside cs r w = let p = w.some in grind (arith, nat_tests, w.cells (r.start + r.length - 1), get_or_past {X = Cell})
 
 -- its length in the map is its own
 whole_length : (cs : List Cell) (r : Run) → WholeRun cs r → run_length cs r.start ≡ r.length
 whole_length cs r w = let p = w.some in run_is cs r.start r.length p
-    (w.cells r.start (omega arith) (omega arith) ∙ cond-true (eqb r.start r.start) First Rest (eq-eqb r.start r.start refl))
-    (λ g lo hi. w.cells g (omega arith) hi ∙ cond-false (eqb g r.start) First Rest (ne_eqb g r.start (λ e. omega arith)))
+    (grind (arith, nat_tests, w.cells))
+    (λ g lo hi. grind (arith, nat_tests, w.cells))
     w.end
 
 -- releasing one run frees its granules
