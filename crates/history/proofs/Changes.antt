@@ -1,5 +1,6 @@
 -- Each change of the machine keeps the invariant.
 use Rattle.std.proofs.Common.{◌≡◌, ℕ, zero, suc, ◌+◌, ◌-◌, ◌*◌, ◌/◌, ◌%◌, ◌<◌, ◌≤◌, Bool, true, false, cond, ◌&&◌, eqb, ltb, ◌≢◌, List, [], ◌∷◌, length, get_or, set, Some, None, Option, sym, refl, ap, ◌∙◌, subst, inl, inr, arith, length-set}
+use Rattle.machine.specs.declared.registers.Registers.{Registers}
 use Rattle.std.proofs.lemmas.List.{append-nil}
 use lib.Seq.{paste}
 use Rattle.std.proofs.lemmas.Bool.Decides.{nat_tests}
@@ -14,7 +15,7 @@ use Rattle.authority.specs.Masks.{all_permissions}
 use Rattle.authority.specs.declared.capability.Capability.{Capability}
 use Rattle.memory.specs.Memories.{with_image}
 use Rattle.machine.specs.Answers.{length_of}
-use Rattle.machine.specs.Model.{Fixed, State, with_register, with_map, with_byte, with_capability, with_waiting, with_painted, with_passed, with_ended, with_shut}
+use Rattle.machine.specs.Model.{Fixed, State, with_register, with_map, with_byte, with_capability, with_waiting, with_painted, with_passed, with_ended, with_shut, with_register_in}
 use Rattle.machine.specs.Rules.{is_revoked, run_under}
 use Rattle.machine.specs.Runs.{begins_at, in_runs, survivor, swept_tags, released_cells}
 use Rattle.quarantine.specs.declared.run.Run.{Run}
@@ -23,7 +24,7 @@ use Rattle.quarantine.specs.declared.sweep.Sweep.TheVariants.{Idle, Open}
 use Rattle.history.specs.Ledgers.{Entry, Grant, Ledger, put_at, slot, with_entry, with_grant, with_granule}
 use Rattle.history.proofs.Authorities.{made_numbers}
 use Rattle.history.proofs.Base.{Among, among_append, among_left, among_push, among_right, not_cleared, some_same, within, within_true}
-use Rattle.history.proofs.Laws.{InsideAll, WholeRun, base_at, capability_at, get_released, get_swept, get_taken, get_wiped_bytes, get_wiped_tags, length_image, length_released, length_swept, length_taken, length_wiped_bytes, length_wiped_tags, read_image, read_other, read_same, read_set, reg, reg_emptied, reg_put, run_end, shaped_emptied, shaped_put}
+use Rattle.history.proofs.Laws.{InsideAll, Shaped, WholeRun, base_at, capability_at, get_released, get_swept, get_taken, get_wiped_bytes, get_wiped_tags, length_image, length_released, length_swept, length_taken, length_wiped_bytes, length_wiped_tags, read_image, read_other, read_same, read_set, reg, reg_emptied, reg_in, reg_put, run_end, shaped_emptied, shaped_put}
 use Rattle.history.proofs.Invariant.{Inv, Live, Sound}
 use Rattle.history.proofs.Live.{among_in, begins_append, begins_in, disjoint, grown, later, live_bounds, live_grown, live_kept, live_taken, more, once_left, once_more_of, once_right, sound_base, sound_grown, sound_kept, sound_new, sound_span, whole_run}
 use Rattle.history.proofs.Places.{get_set}
@@ -47,35 +48,48 @@ tagged_in (x ∷ ts) zero e = omega arith
 tagged_in (x ∷ ts) (suc g) e = let h = tagged_in ts g e in omega arith
 
 module _ (K : Fixed) (s : State) (b : Ledger) (v : Inv K s b) where
-  -- a register
-  pub inv_reg : (c r : ℕ) → c < 8 → r < 8 → (o : Option Capability) (e : Option Entry)
-      → ((a : Capability) → o ≡ Some a → Sound s.cells b.latest b.grants a e × (in_runs s.painted (base_of a / 16) ≡ false))
-      → Inv K (with_register s c r o) (with_entry b (slot c r) e)
-  inv_reg c r hc hr o e h = record {
+  -- what is stored at a passed granule is not painted
+  pub mem_new : (g : ℕ) → get_or s.tags g false ≡ true → (a : Capability) → capability_at s.bytes g ≡ Some a → (p : ℕ) → s.sweep ≡ Open p → g < p → in_runs s.painted (base_of a / 16) ≡ false
+  mem_new g t a at p e lt = ap (λ (x : ℕ). in_runs s.painted (x / 16)) (sym (base_at s.bytes g a at)) ∙ (v.tags_new p e).1 g lt t
+
+  -- a change of registers, bytes, tags and the sweep's place, which leaves the map and the runs
+  inv_kept : (rs : Registers) (bs : List ℕ) (ts : List Bool) (w : Sweep) (es gs : ℕ → Option Entry) → Shaped rs → length bs ≡ length s.bytes → length ts ≡ length s.tags
+      → ((i : ℕ) (a : Capability) → reg_in rs i ≡ Some a → Sound s.cells b.latest b.grants a (es i) × (in_runs s.painted (base_of a / 16) ≡ false))
+      → ((g : ℕ) → get_or ts g false ≡ true
+      → (a : Capability) × (capability_at bs g ≡ Some a) × Sound s.cells b.latest b.grants a (gs g) × ((p : ℕ) → w ≡ Open p → g < p → in_runs s.painted (base_of a / 16) ≡ false))
+      → (w ≡ Idle → s.painted ≡ []) → ((p : ℕ) → w ≡ Open p → p ≤ K.memory_granules)
+      → Inv K (record s { registers = rs; bytes = bs; tags = ts; sweep = w }) (record b { registers = es; granules = gs })
+  inv_kept rs bs ts w es gs shaped lb lt hr hm hi hp = record {
     sized = v.sized;
-    l_bytes = v.l_bytes;
-    l_tags = v.l_tags;
+    l_bytes = lb ∙ v.l_bytes;
+    l_tags = lt ∙ v.l_tags;
     l_cells = v.l_cells;
-    shaped = shaped_put s.registers c r o v.shaped hc hr;
-    regs = λ j a q.
-        (elim (eqb j (slot c r)) as (λ t. cond t o (reg s j) ≡ Some a → Sound s.cells b.latest b.grants a (cond t e (b.registers j))) [ true ↦ λ z. (h a z).0 | false ↦ λ z. v.regs j a z ])
-        (sym (there j) ∙ q);
-    mem = v.mem;
+    shaped = shaped;
+    regs = λ i a e. (hr i a e).0;
+    mem = λ g t. let (a, at, o, n) = hm g t in (a, at, o);
     waiting = v.waiting;
     painted = v.painted;
     ends = v.ends;
     once = v.once;
     apart = v.apart;
     numbered = v.numbered;
-    idle = v.idle;
-    regs_new = λ j a q.
-        (elim (eqb j (slot c r)) as (λ t. cond t o (reg s j) ≡ Some a → in_runs s.painted (base_of a / 16) ≡ false) [ true ↦ λ z. (h a z).1 | false ↦ λ z. v.regs_new j a z ])
-        (sym (there j) ∙ q);
-    tags_new = v.tags_new;
+    idle = hi;
+    regs_new = λ i a e. (hr i a e).1;
+    tags_new = λ p e. (hp p e, λ g lt t. let (a, at, o, n) = hm g t in ap (λ (x : ℕ). in_runs s.painted (x / 16)) (base_at bs g a at) ∙ n p e lt);
   }
-    where
-      there : (j : ℕ) → reg (with_register s c r o) j ≡ cond (eqb j (slot c r)) o (reg s j)
-      there j = reg_put s.registers c r j o v.shaped hc hr
+
+  regs_kept : (i : ℕ) (a : Capability) → reg s i ≡ Some a → Sound s.cells b.latest b.grants a (b.registers i) × (in_runs s.painted (base_of a / 16) ≡ false)
+  regs_kept i a e = (v.regs i a e, v.regs_new i a e)
+
+  -- a register
+  pub inv_reg : (c r : ℕ) → c < 8 → r < 8 → (o : Option Capability) (e : Option Entry)
+      → ((a : Capability) → o ≡ Some a → Sound s.cells b.latest b.grants a e × (in_runs s.painted (base_of a / 16) ≡ false))
+      → Inv K (with_register s c r o) (with_entry b (slot c r) e)
+  inv_reg c r hc hr o e h = inv_kept (with_register_in s.registers c r o) s.bytes s.tags s.sweep (put_at b.registers (slot c r) e) b.granules (shaped_put s.registers c r o v.shaped hc hr) refl refl
+      (λ j a q.
+      (elim (eqb j (slot c r)) as (λ t. cond t o (reg s j) ≡ Some a → Sound s.cells b.latest b.grants a (cond t e (b.registers j)) × (in_runs s.painted (base_of a / 16) ≡ false)) [ true ↦ h a | false ↦ regs_kept j a ])
+      (sym (reg_put s.registers c r j o v.shaped hc hr) ∙ q))
+      (λ g t. let (a, at, o) = v.mem g t in (a, at, o, mem_new g t a at)) v.idle (λ p e. (v.tags_new p e).0)
 
   -- what is not revoked is not painted
   pub not_painted : (c : Capability) → is_revoked s.sweep s.painted c ≡ false → in_runs s.painted (base_of c / 16) ≡ false
@@ -119,34 +133,24 @@ module _ (K : Fixed) (s : State) (b : Ledger) (v : Inv K s b) where
 
   -- k granules are passed
   pub inv_pass : (p k : ℕ) → s.sweep ≡ Open p → p + k ≤ K.memory_granules → Inv K (with_passed s p k) b
-  inv_pass p k sw fit = record {
-    sized = v.sized;
-    l_bytes = v.l_bytes;
-    l_tags = length_swept s.painted s.bytes p k s.tags ∙ v.l_tags;
-    l_cells = v.l_cells;
-    shaped = v.shaped;
-    regs = v.regs;
-    mem = λ g t. v.mem g (still g t).0;
-    waiting = v.waiting;
-    painted = v.painted;
-    ends = v.ends;
-    once = v.once;
-    apart = v.apart;
-    numbered = v.numbered;
-    idle = λ e. cc;
-    regs_new = v.regs_new;
-    tags_new = λ q e. let z : p + k ≡ q = cc in
-        (omega arith, λ g lt t. elim (cases_lt g p) [ inl h ↦ (v.tags_new p sw).1 g h (still g t).0 | inr h ↦ (still g t).1 h (omega arith) ]);
-  }
+  inv_pass p k sw fit = inv_kept s.registers s.bytes (swept_tags s.painted s.bytes p k s.tags) (Open (p + k)) b.registers b.granules v.shaped refl (length_swept s.painted s.bytes p k s.tags) regs_kept
+      (λ g t.
+      let (out, old) = not_cleared (within p k g && in_runs s.painted (word_at s.bytes (16 * g) / 16)) (sym (get_swept s.painted s.bytes p k g s.tags) ∙ t) in
+      let (a, at, o) = v.mem g old in (
+        a,
+        at,
+        o,
+        λ q e lt.
+            let z : p + k ≡ q = cc in
+            elim (cases_lt g p) [
+              | inl h ↦ mem_new g old a at p sw h
+              | inr h ↦ ap (λ (x : ℕ). in_runs s.painted (x / 16)) (sym (base_at s.bytes g a at)) ∙ clear p k g _ out h (omega arith)
+            ],
+      ))
+      (λ e. cc) (λ q e. let z : p + k ≡ q = cc in omega arith)
     where
-      still : (g : ℕ) → get_or (swept_tags s.painted s.bytes p k s.tags) g false ≡ true
-          → (get_or s.tags g false ≡ true) × (p ≤ g → g < p + k → in_runs s.painted (word_at s.bytes (16 * g) / 16) ≡ false)
-      still g t =
-          let (out, old) = not_cleared _ (sym (get_swept s.painted s.bytes p k g s.tags) ∙ t) in
-          (old, λ lo hi. clear p k g _ out lo hi)
-        where
-          clear : (p k g : ℕ) (i : Bool) → (within p k g && i) ≡ false → p ≤ g → g < p + k → i ≡ false
-          clear p k g i e lo hi = grind (arith, nat_tests)
+      clear : (p k g : ℕ) (i : Bool) → (within p k g && i) ≡ false → p ≤ g → g < p + k → i ≡ false
+      clear p k g i e lo hi = grind (arith, nat_tests)
 
   -- the painted runs lie inside, are exactly runs of the map, and share no granule
   pub painted_inside : InsideAll (length s.tags) s.painted
@@ -181,7 +185,7 @@ module _ (K : Fixed) (s : State) (b : Ledger) (v : Inv K s b) where
     shaped = v.shaped;
     regs = λ j a e. sound_kept s.painted _ painted_released v.painted (v.regs j a e) (v.regs_new j a e);
     mem = λ g t.
-        let (out, old) = not_cleared _ (sym (painted_wiped_tags g) ∙ t) in
+        let (out, old) = not_cleared (in_runs s.painted g) (sym (painted_wiped_tags g) ∙ t) in
         let (a, at, o) = v.mem g old in
         let inside = tagged_in s.tags g old in
         let new = (v.tags_new p sw).1 g (omega (arith, v.l_tags)) old in
@@ -275,43 +279,18 @@ module _ (K : Fixed) (s : State) (b : Ledger) (v : Inv K s b) where
       some : 0 < run_length s.cells (base_of a / 16)
       some = let z = a.nonempty in omega arith
 
-  -- bytes and tags
-  inv_mem : (bs : List ℕ) (ts : List Bool) (gs : ℕ → Option Entry) → length bs ≡ length s.bytes → length ts ≡ length s.tags
-      → ((g : ℕ) → get_or ts g false ≡ true
-      → (a : Capability) × (capability_at bs g ≡ Some a) × Sound s.cells b.latest b.grants a (gs g) × ((p : ℕ) → s.sweep ≡ Open p → g < p → in_runs s.painted (base_of a / 16) ≡ false))
-      → Inv K (record s { bytes = bs; tags = ts }) (record b { granules = gs })
-  inv_mem bs ts gs lb lt h = record {
-    sized = v.sized;
-    l_bytes = lb ∙ v.l_bytes;
-    l_tags = lt ∙ v.l_tags;
-    l_cells = v.l_cells;
-    shaped = v.shaped;
-    regs = v.regs;
-    mem = λ g t. let (a, at, o, n) = h g t in (a, at, o);
-    waiting = v.waiting;
-    painted = v.painted;
-    ends = v.ends;
-    once = v.once;
-    apart = v.apart;
-    numbered = v.numbered;
-    idle = v.idle;
-    regs_new = v.regs_new;
-    tags_new = λ p e. ((v.tags_new p e).0, λ g lt t. let (a, at, o, n) = h g t in ap (λ (x : ℕ). in_runs s.painted (x / 16)) (base_at bs g a at) ∙ n p e lt);
-  }
-
-  -- what is stored at a passed granule is not painted
-  pub mem_new : (g : ℕ) → get_or s.tags g false ≡ true → (a : Capability) → capability_at s.bytes g ≡ Some a → (p : ℕ) → s.sweep ≡ Open p → g < p → in_runs s.painted (base_of a / 16) ≡ false
-  mem_new g t a at p e lt = ap (λ (x : ℕ). in_runs s.painted (x / 16)) (sym (base_at s.bytes g a at)) ∙ (v.tags_new p e).1 g lt t
-
   pub inv_byte : (i x : ℕ) → i < 16 * K.memory_granules → Inv K (with_byte s i x) b
-  inv_byte i x lt = inv_mem (set s.bytes i x) (set s.tags (i / 16) false) b.granules (simp length-set) (simp length-set) λ g t.
-      let (ne, old) = not_cleared _ (sym (get_set s.tags (i / 16) g false false (omega (arith, v.l_tags))) ∙ t) in
+  inv_byte i x lt = inv_kept s.registers (set s.bytes i x) (set s.tags (i / 16) false) s.sweep b.registers b.granules v.shaped (simp length-set) (simp length-set) regs_kept
+      (λ g t.
+      let (ne, old) = not_cleared (eqb g (i / 16)) (sym (get_set s.tags (i / 16) g false false (omega (arith, v.l_tags))) ∙ t) in
       let (a, at, o) = v.mem g old in
-      (a, read_set s.bytes i x g (omega (arith, v.l_bytes)) (eqb-false g (i / 16) ne) ∙ at, o, mem_new g old a at)
+      (a, read_set s.bytes i x g (omega (arith, v.l_bytes)) (eqb-false g (i / 16) ne) ∙ at, o, mem_new g old a at))
+      v.idle (λ p e. (v.tags_new p e).0)
 
   pub inv_capability : (g₀ : ℕ) (c : Capability) (e : Option Entry) → g₀ < K.memory_granules → Sound s.cells b.latest b.grants c e → in_runs s.painted (base_of c / 16) ≡ false
       → Inv K (with_capability s g₀ c) (with_granule b g₀ e)
-  inv_capability g₀ c e lt o un = inv_mem (with_image s.bytes g₀ (Some c)) (set s.tags g₀ true) (put_at b.granules g₀ e) (length_image s.bytes g₀ c fits) (simp length-set) λ g t.
+  inv_capability g₀ c e lt o un = inv_kept s.registers (with_image s.bytes g₀ (Some c)) (set s.tags g₀ true) s.sweep b.registers (put_at b.granules g₀ e) v.shaped (length_image s.bytes g₀ c fits) (simp length-set) regs_kept
+      (λ g t.
       elim (cases_Bool (eqb g g₀)) [
         | inl y ↦ (
           c,
@@ -326,7 +305,8 @@ module _ (K : Fixed) (s : State) (b : Ledger) (v : Inv K s b) where
               subst (λ (x : Option Entry). Sound s.cells b.latest b.grants a x) (sym (cond-false (eqb g g₀) e (b.granules g) n)) o',
               mem_new g old a at,
             )
-      ]
+      ])
+      v.idle (λ p e. (v.tags_new p e).0)
     where
       fits : 16 * g₀ + 16 ≤ length s.bytes
       fits = omega (arith, v.l_bytes)
@@ -362,7 +342,7 @@ module _ (K : Fixed) (s : State) (b : Ledger) (v : Inv K s b) (c r n at next : �
   unpainted =
       let e : base_of w / 16 ≡ at = omega (arith, spans) in
       ap (in_runs s.painted) e ∙ (false_from_ne_true _ λ y.
-          let (x, am, lo, hi) = among_in s.painted at y in live_taken (v.painted x am).1 at lo hi (free_there at (omega arith) (omega arith)))
+      let (x, am, lo, hi) = among_in s.painted at y in live_taken (v.painted x am).1 at lo hi (free_there at (omega arith) (omega arith)))
 
   still_ends : {k : ℕ} (x : Run) → Live s.cells b.latest b.grants k x → (get_or s.cells (x.start + x.length) Free ≡ Rest → ⊥) → get_or (paste s.cells at (run_of n) n) (x.start + x.length) Free ≡ Rest → ⊥
   still_ends x l old e = go (within at n (x.start + x.length)) (eqb (x.start + x.length) at) refl refl (sym (get_taken s.cells at n (x.start + x.length) pos room.0) ∙ e)

@@ -12,9 +12,12 @@ abbrev pub Room : List Cell → ℕ → ℕ → Type 0
 Room cs b n = (b + n ≤ length cs) × ((g : ℕ) → b ≤ g → g < b + n → get_or cs g Free ≡ Free)
 
 pub room_of : (cs : List Cell) (b n : ℕ) → FreeAt cs b n → Room cs b n
-room_of cs b n f = (f.0, λ g lo hi.
-    let z : b + (g - b) ≡ g = omega arith in
-    cc (f.1 (g - b) (omega arith), get_or_default cs g Free Rest (omega (arith, f.0))))
+room_of cs b n f = (
+  f.0,
+  λ g lo hi.
+      let z : b + (g - b) ≡ g = omega arith in
+      cc (f.1 (g - b) (omega arith), get_or_default cs g Free Rest (omega (arith, f.0))),
+)
 
 -- the bytes of a new run
 
