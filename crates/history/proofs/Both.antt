@@ -1,7 +1,7 @@
 -- The same change on both machines.
 use Rattle.std.proofs.Common.{◌≡◌, ℕ, suc, ◌+◌, ◌-◌, ◌*◌, ◌/◌, ◌<◌, ◌≤◌, Bool, true, false, cond, ◌&&◌, eqb, ltb, leb, [], ◌∷◌, ◌++◌, get_or, Some, Option, sym, ap, ◌∙◌, inl, inr, arith}
 use lib.Seq.{paste}
-use Rattle.std.proofs.lemmas.Bool.{cases_Bool, cond-false, ne_eqb}
+use Rattle.std.proofs.lemmas.Bool.{cases_Bool, ne_eqb}
 use Rattle.allocator.specs.declared.cell.Cell.TheVariants.{Free}
 use Rattle.allocator.specs.Maps.{run_of}
 use Rattle.authority.specs.Capabilities.{base_of, top_of}
@@ -143,6 +143,6 @@ module _ (m : Group) (K : Fixed) (s t : State) (b c : Ledger) (v : Inv K s b) (v
 
       older : (j : ℕ) → fresh_byte j ≡ false → Outside m (with_grant b a r it) j → Outside m b j
       older j x (k, w, l, g, y) =
-          let l' = sym (cond-false (fresh_byte j) (Some b.next) (b.latest j) x) ∙ l in
+          let l' = rw x at l in
           let lt = d.dated j k l' in
-          (k, w, l', sym (cond-false (eqb k b.next) (Some (record { to = a; whole = it })) (b.grants k) (ne_eqb k b.next (omega arith))) ∙ g, y)
+          (k, w, l', rw (ne_eqb k b.next (omega arith)) at g, y)

@@ -1,10 +1,10 @@
 -- Each change of the machine keeps the invariant.
-use Rattle.std.proofs.Common.{◌≡◌, ℕ, zero, suc, ◌+◌, ◌-◌, ◌*◌, ◌/◌, ◌%◌, ◌<◌, ◌≤◌, Bool, true, false, cond, ◌&&◌, eqb, ltb, ◌≢◌, List, [], ◌∷◌, length, get_or, set, Some, None, Option, sym, refl, ap, ◌∙◌, subst, inl, inr, arith, length-set}
+use Rattle.std.proofs.Common.{◌≡◌, ℕ, zero, suc, ◌+◌, ◌-◌, ◌*◌, ◌/◌, ◌%◌, ◌<◌, ◌≤◌, Bool, true, false, cond, ◌&&◌, eqb, ltb, ◌≢◌, List, [], ◌∷◌, length, get_or, set, Some, Option, sym, refl, ap, ◌∙◌, subst, inl, inr, arith, length-set}
 use Rattle.machine.specs.declared.registers.Registers.{Registers}
 use Rattle.std.proofs.lemmas.List.{append-nil}
 use lib.Seq.{paste}
 use Rattle.std.proofs.lemmas.Bool.Decides.{nat_tests}
-use Rattle.std.proofs.lemmas.Bool.{or_left, cases_Bool, cases_lt, eqb-true, eqb-false, cond-true, cond-false, lt-ltb, false_from_ne_true}
+use Rattle.std.proofs.lemmas.Bool.{or_left, cases_Bool, cases_lt, eqb-true, eqb-false, cond-false, lt-ltb, false_from_ne_true}
 use Rattle.allocator.specs.declared.cell.Cell.{Cell}
 use Rattle.allocator.specs.declared.cell.Cell.TheVariants.{Free, First, Rest}
 use Rattle.allocator.specs.Maps.{FreeAt, run_length, run_of}
@@ -17,14 +17,14 @@ use Rattle.memory.specs.Memories.{with_image}
 use Rattle.machine.specs.Answers.{length_of}
 use Rattle.machine.specs.Model.{Fixed, State, with_register, with_map, with_byte, with_capability, with_waiting, with_painted, with_passed, with_ended, with_shut, with_register_in}
 use Rattle.machine.specs.Rules.{is_revoked, run_under}
-use Rattle.machine.specs.Runs.{begins_at, in_runs, survivor, swept_tags, released_cells}
+use Rattle.machine.specs.Runs.{begins_at, in_runs, swept_tags, released_cells}
 use Rattle.quarantine.specs.declared.run.Run.{Run}
 use Rattle.quarantine.specs.declared.sweep.Sweep.{Sweep}
 use Rattle.quarantine.specs.declared.sweep.Sweep.TheVariants.{Idle, Open}
-use Rattle.history.specs.Ledgers.{Entry, Grant, Ledger, put_at, slot, with_entry, with_grant, with_granule}
+use Rattle.history.specs.Ledgers.{Entry, Ledger, put_at, slot, with_entry, with_grant, with_granule}
 use Rattle.history.proofs.Authorities.{made_numbers}
 use Rattle.history.proofs.Base.{Among, among_append, among_left, among_push, among_right, not_cleared, some_same, within, within_true}
-use Rattle.history.proofs.Laws.{InsideAll, Shaped, WholeRun, base_at, capability_at, get_released, get_swept, get_taken, get_wiped_bytes, get_wiped_tags, length_image, length_released, length_swept, length_taken, length_wiped_bytes, length_wiped_tags, read_image, read_other, read_same, read_set, reg, reg_emptied, reg_in, reg_put, run_end, shaped_emptied, shaped_put}
+use Rattle.history.proofs.Laws.{InsideAll, Shaped, WholeRun, base_at, capability_at, get_released, get_swept, get_taken, get_wiped_bytes, get_wiped_tags, length_image, length_released, length_swept, length_taken, length_wiped_bytes, length_wiped_tags, read_image, read_other, read_same, read_set, reg, reg_emptied, reg_in, reg_put, run_end, shaped_emptied, shaped_put, survived}
 use Rattle.history.proofs.Invariant.{Inv, Live, Sound}
 use Rattle.history.proofs.Live.{among_in, begins_append, begins_in, disjoint, grown, later, live_bounds, live_grown, live_kept, live_taken, more, once_left, once_more_of, once_right, sound_base, sound_grown, sound_kept, sound_new, sound_span, whole_run}
 use Rattle.history.proofs.Places.{get_set}
@@ -107,7 +107,7 @@ module _ (K : Fixed) (s : State) (b : Ledger) (v : Inv K s b) where
     l_tags = v.l_tags;
     l_cells = v.l_cells;
     shaped = shaped_emptied s.waiting s.registers v.shaped;
-    regs = λ j a e. v.regs j a (kept (reg s j) a (sym (there j) ∙ e)).0;
+    regs = λ j a e. v.regs j a (kept j a e).0;
     mem = v.mem;
     waiting = λ r x. absurd x;
     painted = v.waiting;
@@ -116,20 +116,12 @@ module _ (K : Fixed) (s : State) (b : Ledger) (v : Inv K s b) where
     apart = λ r x. absurd x;
     numbered = v.numbered;
     idle = λ e. cc;
-    regs_new = λ j a e. (kept (reg s j) a (sym (there j) ∙ e)).1;
+    regs_new = λ j a e. (kept j a e).1;
     tags_new = λ p e. let z : 0 ≡ p = cc in (omega arith, λ g lt t. absurd (omega arith));
   }
     where
-      there : (j : ℕ) → reg (with_painted s) j ≡ survivor s.waiting (reg s j)
-      there j = reg_emptied s.waiting s.registers j
-
-      kept : (o : Option Capability) (a : Capability) → survivor s.waiting o ≡ Some a → (o ≡ Some a) × (in_runs s.waiting (base_of a / 16) ≡ false)
-      kept None a e = cc
-      kept (Some c) a e = go (in_runs s.waiting (base_of c / 16)) refl e
-        where
-          go : (t : Bool) → in_runs s.waiting (base_of c / 16) ≡ t → cond t None (Some c) ≡ Some a → (Some c ≡ Some a) × (in_runs s.waiting (base_of a / 16) ≡ false)
-          go true q e = cc
-          go false q e = (e, subst (λ (x : Capability). in_runs s.waiting (base_of x / 16) ≡ false) (some_same e) q)
+      kept : (j : ℕ) (a : Capability) → reg (with_painted s) j ≡ Some a → (reg s j ≡ Some a) × (in_runs s.waiting (base_of a / 16) ≡ false)
+      kept j a e = survived s.waiting (reg s j) a (sym (reg_emptied s.waiting s.registers j) ∙ e)
 
   -- k granules are passed
   pub inv_pass : (p k : ℕ) → s.sweep ≡ Open p → p + k ≤ K.memory_granules → Inv K (with_passed s p k) b
@@ -295,7 +287,7 @@ module _ (K : Fixed) (s : State) (b : Ledger) (v : Inv K s b) where
         | inl y ↦ (
           c,
           ap (capability_at (with_image s.bytes g₀ (Some c))) (eqb-true g g₀ y) ∙ read_image s.bytes g₀ c fits,
-          subst (λ (x : Option Entry). Sound s.cells b.latest b.grants c x) (sym (cond-true (eqb g g₀) e (b.granules g) y)) o,
+          rw y o,
           λ p q h. un,
         )
         | inr n ↦ let old : get_or s.tags g false ≡ true = sym (cond-false (eqb g g₀) true (get_or s.tags g false) n) ∙ (sym (get_set s.tags g₀ g true false (omega (arith, v.l_tags))) ∙ t) in
@@ -376,14 +368,14 @@ module _ (K : Fixed) (s : State) (b : Ledger) (v : Inv K s b) (c r n at next : �
     once = v.once;
     apart = v.apart;
     numbered = λ k g e. elim (cases_Bool (eqb k b.next)) [
-      | inl y ↦ let q = some_same (sym (cond-true (eqb k b.next) _ (b.grants k) y) ∙ e) in
-          let top : top_of w ≡ top_of g.whole = ap (λ (x : Grant). top_of x.whole) q in
+      | inl y ↦ let q = rw y at e in
+          let top : top_of w ≡ top_of g.whole = cc in
           let k-is : k ≡ b.next = eqb-true k b.next y in
           let l = v.l_cells in
           let inn = room.0 in
           let sp = spans in
           (omega arith, omega arith)
-      | inr x ↦ let q = v.numbered k g (sym (cond-false (eqb k b.next) _ (b.grants k) x) ∙ e) in (omega arith, q.1)
+      | inr x ↦ let q = v.numbered k g (rw x at e) in (omega arith, q.1)
     ];
     idle = v.idle;
     regs_new = λ j a e.

@@ -103,6 +103,15 @@ reg_emptied qs rs j =
     ap (λ (x : Compartment). get_or x.registers (j % 8) None) (map_place (emptied_compartment qs) rs.compartments (j / 8) empty_compartment empty_compartment refl)
     ∙ map_place (survivor qs) (get_or rs.compartments (j / 8) empty_compartment).registers (j % 8) None None refl
 
+-- what stays in a register when runs are painted
+pub survived : (rs : List Run) (o : Option Capability) (a : Capability) → survivor rs o ≡ Some a → (o ≡ Some a) × (in_runs rs (base_of a / 16) ≡ false)
+survived rs None a e = cc
+survived rs (Some c) a e = go (in_runs rs (base_of c / 16)) refl e
+  where
+    go : (t : Bool) → in_runs rs (base_of c / 16) ≡ t → cond t None (Some c) ≡ Some a → (Some c ≡ Some a) × (in_runs rs (base_of a / 16) ≡ false)
+    go true q e = cc
+    go false q e = let z : c ≡ a = cc in (e, cc)
+
 pub shaped_emptied : (qs : List Run) (rs : Registers) → Shaped rs → Shaped (emptied_registers qs rs)
 shaped_emptied qs rs sh = record {
   rows = length-map rs.compartments (emptied_compartment qs) ∙ sh.rows;

@@ -10,15 +10,14 @@ use Rattle.authority.specs.declared.capability.Capability.{Capability}
 use Rattle.machine.specs.Calls.{Call}
 use Rattle.machine.specs.Model.{Fixed, State, Effect, outcome, state_after, with_register, with_register_in, with_map, with_byte, with_capability, with_passed, with_ended}
 use Rattle.machine.specs.Rules.{derived}
-use Rattle.machine.specs.Runs.{in_runs, survivor}
-use Rattle.quarantine.specs.declared.run.Run.{Run}
+use Rattle.machine.specs.Runs.{in_runs}
 use Rattle.history.specs.Isolation.{Group, GivesApart}
 use Rattle.history.specs.Ledgers.{Entry, Grant, Ledger, derived_entry, granted, loaded, note, slot, stored, with_entry, with_grant, with_granule, with_provenance}
 use Rattle.history.proofs.Authorities.{made_numbers}
 use Rattle.history.proofs.Base.{not_cleared, some_same, within, within_true}
 use Rattle.history.proofs.Changes.{inv_pass, painted_released, painted_wiped_bytes, painted_wiped_tags, whole_made}
 use Rattle.history.proofs.Invariant.{Inv, Sound}
-use Rattle.history.proofs.Laws.{get_image, get_swept, get_taken, reg, reg_emptied, reg_in, reg_put, reg_slot, slot_row}
+use Rattle.history.proofs.Laws.{get_image, get_swept, get_taken, reg, reg_emptied, reg_in, reg_put, reg_slot, slot_row, survived}
 use Rattle.history.proofs.Live.{live_taken, sound_span}
 use Rattle.history.proofs.Places.{get_set}
 use Rattle.history.proofs.Rooms.{Room, room_of, span_in, span_same}
@@ -57,7 +56,7 @@ module _ (m : Group) (K : Fixed) (s : State) (b : Ledger) (v : Inv K s b) (d : T
       let u = sound_span o in
       let n = a.nonempty in
       let z = o.live.mine x (omega arith) (omega arith) in
-      let y : o.provenance ≡ k = some_same (sym z ∙ l) in
+      let y : o.provenance ≡ k = cc in
       d.reg_side i a e (record { capability = a; provenance = o.provenance }) w o.recorded (ap b.grants y ∙ q)
 
   tidy_reg : (c r : ℕ) → c < 8 → r < 8 → (o : Option Capability) (e : Option Entry) → ((a : Capability) → o ≡ Some a → Side m b.grants e (m c))
@@ -68,12 +67,9 @@ module _ (m : Group) (K : Fixed) (s : State) (b : Ledger) (v : Inv K s b) (d : T
     dated = d.dated;
     even = d.even;
     mem_side = d.mem_side;
-    reg_side = λ j a e. elim (cases_Bool (eqb j (slot c r))) [
-      | inl y ↦ subst (λ (x : Option Entry). Side m b.grants x (m (j / 8))) (sym (cond-true (eqb j (slot c r)) bo (b.registers j) y))
-          (subst (λ (x : ℕ). Side m b.grants bo (m x)) (sym (ap (λ (x : ℕ). x / 8) (eqb-true j (slot c r) y) ∙ slot_row c r hr))
-          (h a (sym (cond-true (eqb j (slot c r)) o (reg s j) y) ∙ sym (there j) ∙ e)))
-      | inr n ↦ subst (λ (x : Option Entry). Side m b.grants x (m (j / 8))) (sym (cond-false (eqb j (slot c r)) bo (b.registers j) n))
-          (d.reg_side j a (sym (cond-false (eqb j (slot c r)) o (reg s j) n) ∙ sym (there j) ∙ e))
+    reg_side = λ j a e. let q = sym (there j) ∙ e in elim (cases_Bool (eqb j (slot c r))) [
+      | inl y ↦ let z : c ≡ j / 8 = omega (arith, eqb-true j (slot c r) y) in rw y (subst (λ (x : ℕ). Side m b.grants bo (m x)) z (h a (rw y at q)))
+      | inr n ↦ rw n (d.reg_side j a (rw n at q))
     ];
   }
     where
@@ -113,9 +109,8 @@ module _ (m : Group) (K : Fixed) (s : State) (b : Ledger) (v : Inv K s b) (d : T
     even = d.even;
     reg_side = d.reg_side;
     mem_side = λ g k w t l q. elim (cases_Bool (eqb g g₀)) [
-      | inl y ↦ subst (λ (x : Option Entry). Side m b.grants x (m w.to)) (sym (cond-true (eqb g g₀) o (b.granules g) y)) (h k w (ap (λ (j : ℕ). b.latest (16 * j)) (sym (eqb-true g g₀ y)) ∙ l) q)
-      | inr n ↦ subst (λ (x : Option Entry). Side m b.grants x (m w.to)) (sym (cond-false (eqb g g₀) o (b.granules g) n))
-          (d.mem_side g k w (sym (cond-false (eqb g g₀) true (get_or s.tags g false) n) ∙ sym (tag g) ∙ t) l q)
+      | inl y ↦ rw y (h k w (ap (λ (j : ℕ). b.latest (16 * j)) (sym (eqb-true g g₀ y)) ∙ l) q)
+      | inr n ↦ rw n (d.mem_side g k w (cc (tag g, cond-false (eqb g g₀) true (get_or s.tags g false) n)) l q)
     ];
   }
     where
@@ -128,26 +123,24 @@ module _ (m : Group) (K : Fixed) (s : State) (b : Ledger) (v : Inv K s b) (d : T
     free_tags = λ g e. d.free_tags g (was_free g e);
     free_bytes = λ i e. d.free_bytes i (was_free (i / 16) e);
     dated = λ i k e. (elim (cases_Bool (fresh_byte i)) [
-      | inl y ↦ let z : b.next ≡ k = some_same (sym (cond-true (fresh_byte i) (Some b.next) (b.latest i) y) ∙ e) in omega arith
-      | inr x ↦ let q = d.dated i k (sym (cond-false (fresh_byte i) (Some b.next) (b.latest i) x) ∙ e) in omega arith
+      | inl y ↦ let e' = rw y at e in let z : b.next ≡ k = cc in omega arith
+      | inr x ↦ let q = d.dated i k (rw x at e) in omega arith
     ]);
     even = λ i j e. ap (λ (x : Bool). cond x (Some b.next) (b.latest i)) (span_same (base_of it) (top_of it) at n i j from to e) ∙ ap (λ (x : Option ℕ). cond (fresh_byte j) (Some b.next) x) (d.even i j e);
     reg_side = λ j a e. elim (cases_Bool (eqb j (slot c r))) [
       | inl y ↦ λ q w eq has.
-          let z = some_same (sym (cond-true (eqb j (slot c r)) (Some (record { capability = it; provenance = b.next })) (b.registers j) y) ∙ eq) in
-          let k : b.next ≡ q.provenance = ap (λ (x : Entry). x.provenance) z in
-          let u = sym (cond-true (eqb q.provenance b.next) (Some (record { to = c; whole = it })) (b.grants q.provenance) (eq-eqb q.provenance b.next (sym k))) ∙ has in
-          let t : c ≡ w.to = ap (λ (x : Grant). x.to) (some_same u) in
-          ap m (sym t ∙ sym (ap (λ (x : ℕ). x / 8) (eqb-true j (slot c r) y) ∙ slot_row c r hr))
-      | inr x ↦ let was = sym (cond-false (eqb j (slot c r)) (Some it) (reg s j) x) ∙ sym (there j) ∙ e in
-          subst (λ (o : Option Entry). Side m more o (m (j / 8))) (sym (cond-false (eqb j (slot c r)) (Some (record { capability = it; provenance = b.next })) (b.registers j) x))
-          (older (v.regs j a was) (d.reg_side j a was))
+          let eq' = rw y at eq in
+          let k : b.next ≡ q.provenance = cc in
+          let has' = rw (eq-eqb q.provenance b.next (sym k)) at has in
+          let t : c ≡ w.to = cc in
+          ap m (omega (arith, eqb-true j (slot c r) y))
+      | inr x ↦ let was = rw x at (sym (there j) ∙ e) in rw x (older (v.regs j a was) (d.reg_side j a was))
     ];
     mem_side = λ g k w t l q. elim (cases_Bool (fresh_byte (16 * g))) [
       | inl y ↦ let z = span_in (base_of it) (top_of it) at n (16 * g) from to y in cc (d.free_tags g (rm.1 g (omega arith) (omega arith)))
-      | inr x ↦ let l' = sym (cond-false (fresh_byte (16 * g)) (Some b.next) (b.latest (16 * g)) x) ∙ l in
+      | inr x ↦ let l' = rw x at l in
           let lt = d.dated (16 * g) k l' in
-          older (v.mem g t).2 (d.mem_side g k w t l' (sym (cond-false (eqb k b.next) (Some (record { to = c; whole = it })) (b.grants k) (ne_eqb k b.next (omega arith))) ∙ q))
+          older (v.mem g t).2 (d.mem_side g k w t l' (rw (ne_eqb k b.next (omega arith)) at q))
     ];
   }
     where
@@ -162,14 +155,14 @@ module _ (m : Group) (K : Fixed) (s : State) (b : Ledger) (v : Inv K s b) (d : T
 
       older : {a : Capability} {o : Option Entry} {y : Bool} → Sound s.cells b.latest b.grants a o → Side m b.grants o y → Side m more o y
       older w h q g eq has =
-          let z : w.provenance ≡ q.provenance = ap (λ (x : Entry). x.provenance) (some_same (sym w.recorded ∙ eq)) in
+          let z : w.provenance ≡ q.provenance = cc in
           let lt = (v.numbered w.provenance _ w.live.granted).0 in
-          h q g eq (sym (cond-false (eqb q.provenance b.next) (Some (record { to = c; whole = it })) (b.grants q.provenance) (ne_eqb q.provenance b.next (omega arith))) ∙ has)
+          h q g eq (rw (ne_eqb q.provenance b.next (omega arith)) at has)
 
       was_free : (g : ℕ) → get_or (paste s.cells at (run_of n) n) g Free ≡ Free → get_or s.cells g Free ≡ Free
       was_free g e = elim (cases_Bool (within at n g)) [
         | inl y ↦ let z = within_true at n g y in rm.1 g z.0 z.1
-        | inr x ↦ sym (cond-false (within at n g) (cond (eqb g at) First Rest) (get_or s.cells g Free) x) ∙ sym (get_taken s.cells at n g pos rm.0) ∙ e
+        | inr x ↦ cc (get_taken s.cells at n g pos rm.0, cond-false (within at n g) (cond (eqb g at) First Rest) (get_or s.cells g Free) x)
       ]
 
   -- a change that only takes tags and registers, and leaves the rest
@@ -212,14 +205,6 @@ derived_side m grants (Some x) lo len p y h n w e has = go (derived x.capability
     go None e = cc
     go (Some c) e = let k : x.provenance ≡ n.provenance = ap (λ (u : Entry). u.provenance) (some_same e) in h x w refl (ap grants k ∙ has)
 
-survived : (rs : List Run) (o : Option Capability) (a : Capability) → survivor rs o ≡ Some a → o ≡ Some a
-survived rs None a e = e
-survived rs (Some c) a e = go (in_runs rs (base_of c / 16)) e
-  where
-    go : (t : Bool) → cond t None (Some c) ≡ Some a → Some c ≡ Some a
-    go true e = cc
-    go false e = e
-
 pub tidy_step : (m : Group) (K : Fixed) (s : State) (b : Ledger) → Inv K s b → Tidy m s b → {x : Call} {d : Effect} → GivesApart m x → View K s x d
     → Tidy m (state_after s d) (note b x (outcome d))
 tidy_step m K s b v t gift v_no = t
@@ -258,7 +243,7 @@ tidy_step m K s b v t gift (v_getc {c} {r} {off} {t = u} a a' hc hr ht e al al' 
 tidy_step m K s b v t gift (v_give {c} {r} {d} {t = u} a hc hr hd ht e) = tidy_reg m K s b v t d u hd ht (Some a) _ λ _ _.
     subst (λ (y : Bool). Side m b.grants (b.registers (slot c r)) y) (ap m (slot_row c r hr) ∙ gift) (t.reg_side (slot c r) a (sym (reg_slot s c r hr) ∙ e))
 tidy_step m K s b v t gift (v_drop {c} {r} hc hr) = tidy_reg m K s b v t c r hc hr None None λ a q. cc
-tidy_step m K s b v t gift (v_open e) = tidy_fewer m K s b v t _ refl refl (λ g x. x) (λ i a q. survived s.waiting (reg s i) a (sym (reg_emptied s.waiting s.registers i) ∙ q))
+tidy_step m K s b v t gift (v_open e) = tidy_fewer m K s b v t _ refl refl (λ g x. x) (λ i a q. (survived s.waiting (reg s i) a (sym (reg_emptied s.waiting s.registers i) ∙ q)).0)
 tidy_step m K s b v t gift (v_pass {k} p pos e lt) = tidy_pass m K s b v t p k
 tidy_step m K s b v t gift (v_end {k} p pos e le) =
     let h = (v.tags_new p e).0 in
