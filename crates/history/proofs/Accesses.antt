@@ -7,7 +7,6 @@ use Rattle.machine.specs.Model.{Effect, Fixed, State, fresh_state, outcome, regi
 use Rattle.history.specs.Histories.{after}
 use Rattle.history.specs.Ledgers.{Ledger, empty_ledger, slot}
 use Rattle.history.specs.Provenance.{Access, AccessesFollowProvenance, AllowsAll, Rightful, access_of, ledger}
-use Rattle.history.proofs.Base.{some_same}
 use Rattle.history.proofs.Invariant.{Inv}
 use Rattle.history.proofs.Laws.{reg_slot}
 use Rattle.history.proofs.Live.{sound_span}
@@ -16,11 +15,13 @@ use Rattle.history.proofs.View.{View, v_free, v_getb, v_putb, v_putc, v_getc, vi
 
 module _ (K : Fixed) (s : State) (b : Ledger) (v : Inv K s b) where
   -- an access through a register's capability, within it and with the permissions needed
-  through : (u : Access) (a : Capability) → u.register < 8 → register_at s u.compartment u.register ≡ Some a → base_of a ≤ u.low a → u.high a ≤ top_of a → AllowsAll a u.needs → Rightful s b u
-  through u a hr e lo hi perms =
+  through : {w u : Access} → Some w ≡ Some u → (a : Capability) → w.register < 8 → register_at s w.compartment w.register ≡ Some a → base_of a ≤ w.low a → w.high a ≤ top_of a → AllowsAll a w.needs
+      → Rightful s b u
+  through {w = u} {u = u'} same a hr e lo hi perms =
+      let is : u ≡ u' = cc in
       let o = v.regs (slot u.compartment u.register) a (sym (reg_slot s u.compartment u.register hr) ∙ e) in
       let (x, y, z) = sound_span o in
-      record {
+      subst (Rightful s b) is (record {
         capability = a;
         provenance = o.provenance;
         from = record { to = o.live.to; whole = o.live.whole };
@@ -31,14 +32,14 @@ module _ (K : Fixed) (s : State) (b : Ledger) (v : Inv K s b) where
         latest = λ i l h. o.live.mine i (omega arith) (omega arith);
         inside = (lo, hi);
         permitted = perms;
-      }
+      })
 
   rightful : (u : Access) {x : Call} {d : Effect} → View K s x d → access_of x ≡ Some u → (n : ℕ) → outcome d ≡ Ok n → Rightful s b u
-  rightful u (v_free a hc hr at own al whole new) e n q = subst (Rightful s b) (some_same e) (through _ a hr at (omega arith) (omega arith) (own, tt))
-  rightful u (v_getb a hc hr at load lt) e n q = subst (Rightful s b) (some_same e) (through _ a hr at (omega arith) (omega arith) (load, tt))
-  rightful u (v_putb a hc hr at store lt) e n q = subst (Rightful s b) (some_same e) (through _ a hr at (omega arith) (omega arith) (store, tt))
-  rightful u (v_putc a a' hc hr ht at at' store caps lt al) e n q = subst (Rightful s b) (some_same e) (through _ a hr at (omega arith) (omega arith) (store, (caps, tt)))
-  rightful u (v_getc a a' hc hr ht at load caps lt al tag is new) e n q = subst (Rightful s b) (some_same e) (through _ a hr at (omega arith) (omega arith) (load, (caps, tt)))
+  rightful u (v_free a hc hr at own al whole new) e n q = through e a hr at (omega arith) (omega arith) (own, tt)
+  rightful u (v_getb a hc hr at load lt) e n q = through e a hr at (omega arith) (omega arith) (load, tt)
+  rightful u (v_putb a hc hr at store lt) e n q = through e a hr at (omega arith) (omega arith) (store, tt)
+  rightful u (v_putc a a' hc hr ht at at' store caps lt al) e n q = through e a hr at (omega arith) (omega arith) (store, (caps, tt))
+  rightful u (v_getc a a' hc hr ht at load caps lt al tag is new) e n q = through e a hr at (omega arith) (omega arith) (load, (caps, tt))
   rightful u _ e n q = cc
 
 pub accesses_follow_provenance : AccessesFollowProvenance

@@ -1,6 +1,6 @@
 -- Two histories that agree once the group's own calls are struck out look the same to the others.
-use Rattle.std.proofs.Common.{◌≡◌, ◌*◌, ◌/◌, Bool, true, false, cond, ◌&&◌, eqb, ltb, List, [], ◌∷◌, get_or, replicate, sym, refl, ap, ◌∙◌, subst}
-use Rattle.std.proofs.lemmas.Bool.{cond-true, cond-false}
+use Rattle.std.proofs.Common.{◌≡◌, ◌*◌, ◌/◌, Bool, true, false, cond, ◌&&◌, eqb, ltb, List, [], ◌∷◌, get_or, replicate, sym, refl, ap, ◌∙◌, subst, inl, inr}
+use Rattle.std.proofs.lemmas.Bool.{cond-true, cond-false, cases_Bool}
 use Rattle.allocator.specs.Allocators.{allocating}
 use Rattle.allocator.specs.declared.cell.Cell.TheVariants.{Free}
 use Rattle.machine.specs.Calls.{Call}
@@ -94,30 +94,24 @@ module _ (K : Fixed) (m : Group) where
 
   sim_nil : (q : List Call) → Sim [] q
   sim_nil [] = λ s t b c v v' d d' o gp gq h1 h2. record { answers = refl; core = o }
-  sim_nil (y ∷ q) = go (is_struck m y) refl (sim_nil q)
-    where
-      go : (w : Bool) → is_struck m y ≡ w → Sim [] q → Sim [] (y ∷ q)
-      go true e ih = strip_right y [] q ih e
-      go false e ih = λ s t b c v v' d d' o gp gq h1 h2. cc (stays t y q e)
+  sim_nil (y ∷ q) = elim (cases_Bool (is_struck m y)) [
+    | inl e ↦ strip_right y [] q (sim_nil q) e
+    | inr e ↦ λ s t b c v v' d d' o gp gq h1 h2. cc (stays t y q e)
+  ]
 
   sim_kept : (x : Call) (p : List Call) → ((q : List Call) → Sim p q) → is_struck m x ≡ false → (q : List Call) → Sim (x ∷ p) q
   sim_kept x p ih e [] = λ s t b c v v' d d' o gp gq h1 h2. cc (stays s x p e)
-  sim_kept x p ih e (y ∷ q) = go (is_struck m y) refl (sim_kept x p ih e q)
-    where
-      go : (w : Bool) → is_struck m y ≡ w → Sim (x ∷ p) q → Sim (x ∷ p) (y ∷ q)
-      go true f more = strip_right y (x ∷ p) q more f
-      go false f more = λ s t b c v v' d d' o gp gq h1 h2.
-          let w : x ∷ calls_in (rest_of s x p) ≡ y ∷ calls_in (rest_of t y q) = sym (ap calls_in (stays s x p e)) ∙ h1 ∙ ap calls_in (stays t y q f) in
-          let z : x ≡ y = cc in
-          (subst (λ (u : Call). Sim (x ∷ p) (u ∷ q)) z (keep_both x p q (ih q) e)) s t b c v v' d d' o gp gq h1 h2
+  sim_kept x p ih e (y ∷ q) = elim (cases_Bool (is_struck m y)) [
+    | inl f ↦ strip_right y (x ∷ p) q (sim_kept x p ih e q) f
+    | inr f ↦ λ s t b c v v' d d' o gp gq h1 h2.
+        let w : x ∷ calls_in (rest_of s x p) ≡ y ∷ calls_in (rest_of t y q) = sym (ap calls_in (stays s x p e)) ∙ h1 ∙ ap calls_in (stays t y q f) in
+        let z : x ≡ y = cc in
+        (subst (λ (u : Call). Sim (x ∷ p) (u ∷ q)) z (keep_both x p q (ih q) e)) s t b c v v' d d' o gp gq h1 h2
+  ]
 
   sim : (p q : List Call) → Sim p q
   sim [] q = sim_nil q
-  sim (x ∷ p) q = go (is_struck m x) refl (sim p)
-    where
-      go : (w : Bool) → is_struck m x ≡ w → ((r : List Call) → Sim p r) → Sim (x ∷ p) q
-      go true e ih = strip_left x p q (ih q) e
-      go false e ih = sim_kept x p ih e q
+  sim (x ∷ p) q = elim (cases_Bool (is_struck m x)) [ inl e ↦ strip_left x p q (sim p q) e | inr e ↦ sim_kept x p (sim p) e q ]
 
   tidy_fresh : Tidy m (fresh_state K) empty_ledger
   tidy_fresh = record {

@@ -1,11 +1,11 @@
 -- Each change of the machine keeps the invariant.
 use Rattle.std.proofs.Common.{◌≡◌, ℕ, zero, suc, ◌+◌, ◌-◌, ◌*◌, ◌/◌, ◌%◌, ◌<◌, ◌≤◌, Bool, true, false, cond, ◌&&◌, eqb, ltb, ◌≢◌, List, [], ◌∷◌, length, get_or, set, Some, Option, sym, refl, ap, ◌∙◌, subst, inl, inr, arith, length-set}
+use Rattle.std.proofs.lemmas.Option.{same_Some}
 use Rattle.machine.specs.declared.registers.Registers.{Registers}
 use Rattle.std.proofs.lemmas.List.{append-nil}
 use lib.Seq.{paste}
 use Rattle.std.proofs.lemmas.Bool.Decides.{nat_tests}
 use Rattle.std.proofs.lemmas.Bool.{or_left, cases_Bool, cases_lt, eqb-true, eqb-false, cond-false, lt-ltb, false_from_ne_true}
-use Rattle.allocator.specs.declared.cell.Cell.{Cell}
 use Rattle.allocator.specs.declared.cell.Cell.TheVariants.{Free, First, Rest}
 use Rattle.allocator.specs.Maps.{FreeAt, run_length, run_of}
 use Rattle.authority.proofs.Making.{numbers_back}
@@ -23,8 +23,8 @@ use Rattle.quarantine.specs.declared.sweep.Sweep.{Sweep}
 use Rattle.quarantine.specs.declared.sweep.Sweep.TheVariants.{Idle, Open}
 use Rattle.history.specs.Ledgers.{Entry, Ledger, put_at, slot, with_entry, with_grant, with_granule}
 use Rattle.history.proofs.Authorities.{made_numbers}
-use Rattle.history.proofs.Base.{Among, among_append, among_left, among_push, among_right, not_cleared, some_same, within, within_true}
-use Rattle.history.proofs.Laws.{InsideAll, Shaped, WholeRun, base_at, capability_at, get_released, get_swept, get_taken, get_wiped_bytes, get_wiped_tags, length_image, length_released, length_swept, length_taken, length_wiped_bytes, length_wiped_tags, read_image, read_other, read_same, read_set, reg, reg_emptied, reg_in, reg_put, run_end, shaped_emptied, shaped_put, survived}
+use Rattle.history.proofs.Base.{Among, among_append, among_left, among_push, among_right, not_cleared, within, within_true}
+use Rattle.history.proofs.Laws.{InsideAll, Shaped, WholeRun, base_at, capability_at, get_released, get_swept, get_taken, get_wiped_bytes, get_wiped_tags, length_image, length_released, length_swept, length_taken, length_wiped_bytes, length_wiped_tags, not_freed, read_image, read_other, read_same, read_set, reg, reg_emptied, reg_in, reg_put, run_end, shaped_emptied, shaped_put, survived}
 use Rattle.history.proofs.Invariant.{Inv, Live, Sound}
 use Rattle.history.proofs.Live.{among_in, begins_append, begins_in, disjoint, grown, later, live_bounds, live_grown, live_kept, live_taken, more, once_left, once_more_of, once_right, sound_base, sound_grown, sound_kept, sound_new, sound_span, whole_run}
 use Rattle.history.proofs.Places.{get_set}
@@ -199,11 +199,7 @@ module _ (K : Fixed) (s : State) (b : Ledger) (v : Inv K s b) where
           painted_wiped_bytes i ∙ cond-false (in_runs s.painted (i / 16)) _ _ (ap (in_runs s.painted) d ∙ out))).0
 
       was : (g : ℕ) → get_or (released_cells s.painted s.cells) g Free ≡ Rest → get_or s.cells g Free ≡ Rest
-      was g e = go (in_runs s.painted g) (get_or s.cells g Free) (sym (painted_released g) ∙ e)
-        where
-          go : (t : Bool) (x : Cell) → cond t Free x ≡ Rest → x ≡ Rest
-          go true x q = cc
-          go false x q = q
+      was g e = not_freed (in_runs s.painted g) (sym (painted_released g) ∙ e)
 
   -- a sweep is shut
   pub inv_shut : Inv K (with_shut s) b
@@ -357,7 +353,7 @@ module _ (K : Fixed) (s : State) (b : Ledger) (v : Inv K s b) (c r n at next : �
     shaped = shaped_put s.registers c r (Some w) v.shaped hc hr;
     regs = λ j a e.
         (elim (eqb j (slot c r)) as (λ t. cond t (Some w) (reg s j) ≡ Some a → Sound' a (cond t (Some (record { capability = w; provenance = b.next })) (b.registers j)))
-        [ true ↦ λ q. subst (λ (x : Capability). Sound' x (Some (record { capability = w; provenance = b.next }))) (some_same q) new | false ↦ λ q. up (v.regs j a q) ]) (sym (there j) ∙ e);
+        [ true ↦ λ q. subst (λ (x : Capability). Sound' x (Some (record { capability = w; provenance = b.next }))) (same_Some _ _ q) new | false ↦ λ q. up (v.regs j a q) ]) (sym (there j) ∙ e);
     mem = λ g t. let (a, q, o) = v.mem g t in (a, q, up o);
     waiting = λ r x. let (k, l) = v.waiting r x in (k, live_up l);
     painted = λ r x. let (k, l) = v.painted r x in (k, live_up l);
@@ -380,6 +376,6 @@ module _ (K : Fixed) (s : State) (b : Ledger) (v : Inv K s b) (c r n at next : �
     idle = v.idle;
     regs_new = λ j a e.
         (elim (eqb j (slot c r)) as (λ t. cond t (Some w) (reg s j) ≡ Some a → in_runs s.painted (base_of a / 16) ≡ false)
-        [ true ↦ λ q. ap (λ (x : Capability). in_runs s.painted (base_of x / 16)) (sym (some_same q)) ∙ unpainted | false ↦ λ q. v.regs_new j a q ]) (sym (there j) ∙ e);
+        [ true ↦ λ q. ap (λ (x : Capability). in_runs s.painted (base_of x / 16)) (sym (same_Some _ _ q)) ∙ unpainted | false ↦ λ q. v.regs_new j a q ]) (sym (there j) ∙ e);
     tags_new = v.tags_new;
   }

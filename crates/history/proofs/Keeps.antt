@@ -29,7 +29,6 @@ use Rattle.quarantine.specs.declared.sweep.Sweep.TheVariants.{Idle, Open}
 use Rattle.history.specs.Isolation.{Group, GivesApart, Outside, is_ours, is_struck}
 use Rattle.history.specs.Ledgers.{Entry, Ledger, granted as noted_grant, loaded as noted_load, note, noted, slot, stored, with_entry, with_granule}
 use Rattle.history.proofs.Authorities.{made_numbers}
-use Rattle.history.proofs.Base.{ok_same, some_same}
 use Rattle.history.proofs.Both.{core_byte, core_cap, core_end, core_grant, core_paint, core_pass, core_reg, core_shut, core_wait, granule_alike}
 use Rattle.history.proofs.Changes.{inv_pass, whole_made}
 use Rattle.history.proofs.Core.{Core}
@@ -46,9 +45,6 @@ pub data Match (R : ℕ → ℕ → State → State → Type 0) : Effect → Eff
   m_no : {f : MachineFault} → Match R (denied f) (denied f)
   m_ok : {n n' : ℕ} {s t : State} → R n n' s t → Match R (accepted n s) (accepted n' t)
 
-err_same : {X E : Type 0} {x y : E} → ◌≡◌ {A = Result X E} (Err x) (Err y) → x ≡ y
-err_same e = cc
-
 module _ {R : ℕ → ℕ → State → State → Type 0} where
   two_denied : (f f' : MachineFault) → f ≡ f' → Match R (denied f) (denied f')
   two_denied f f' e = subst (λ (h : MachineFault). Match R (denied f) (denied h)) e m_no
@@ -60,7 +56,7 @@ module _ {R : ℕ → ℕ → State → State → Type 0} where
 
   two_held : (x y : Option Capability) {k l : Capability → Effect} → x ≡ y → ((a : Capability) → x ≡ Some a → y ≡ Some a → Match R (k a) (l a)) → Match R (held x k) (held y l)
   two_held None None eq h = m_no
-  two_held (Some a) (Some a') {k} {l} eq h = subst (λ (z : Capability). Match R (k a) (l z)) (some_same eq) (h a refl (sym eq))
+  two_held (Some a) (Some a') {k} {l} eq h = let z : a ≡ a' = cc in subst (λ z. Match R (k a) (l z)) z (h a refl (sym eq))
   two_held _ _ eq h = cc
 
   two_vacant : (x y : Option Capability) {d e : Effect} → x ≡ y → Match R d e → Match R (vacant x d) (vacant y e)
@@ -73,8 +69,8 @@ module _ {R : ℕ → ℕ → State → State → Type 0} where
   two_permitted (Some p) h = h p
 
   two_memory : {X : Type 0} (x y : Result X MemoryFault) {k l : X → Effect} → x ≡ y → ((a : X) → x ≡ Ok a → Match R (k a) (l a)) → Match R (by_memory x k) (by_memory y l)
-  two_memory (Err f) (Err f') eq h = two_denied (from_memory f) (from_memory f') (ap from_memory (err_same eq))
-  two_memory (Ok a) (Ok a') {k} {l} eq h = subst (λ (z : _). Match R (k a) (l z)) (ok_same eq) (h a refl)
+  two_memory (Err f) (Err f') eq h = two_denied (from_memory f) (from_memory f') (let z : f ≡ f' = cc in ap from_memory z)
+  two_memory (Ok a) (Ok a') {k} {l} eq h = let z : a ≡ a' = cc in subst (λ z. Match R (k a) (l z)) z (h a refl)
   two_memory _ _ eq h = cc
 
   two_granule : (x : Result ℕ MachineFault) {k l : ℕ → Effect} → ((g : ℕ) → x ≡ Ok g → Match R (k g) (l g)) → Match R (at_granule x k) (at_granule x l)
@@ -194,11 +190,11 @@ module _ (m : Group) (K : Fixed) (s t : State) (b c : Ledger) (v : Inv K s b) (v
 
   -- the group's own frees, answered alike
   two_free : (n r : ℕ) {x y : Effect} → View K s (Call.Free n r) x → View K t (Call.Free n r) y → outcome x ≡ outcome y → Match (Agrees (Call.Free n r)) x y
-  two_free n r (v_no {f = k}) (v_no {f = k'}) e = two_denied k k' (err_same e)
+  two_free n r (v_no {f = k}) (v_no {f = k'}) e = two_denied k k' cc
   two_free n r v_no (v_free a hc hr at own al wh w) e = cc
   two_free n r (v_free a hc hr at own al wh w) v_no e = cc
   two_free n r (v_free a hc hr at own al wh w) (v_free a' hc' hr' at' own' al' wh' w') e =
-      let z : base_of a ≡ base_of a' = ok_same e in
+      let z : base_of a ≡ base_of a' = cc in
       m_ok (z, core_wait m K s t b c v v' d d' o _ _ (λ i. record { start = z i / 16; length = run_length (o.same i).cells (z i / 16) }))
 
   -- a grant, by what the allocator does

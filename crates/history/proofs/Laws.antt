@@ -374,17 +374,18 @@ released_one cs r w = let p = w.some in let l = whole_length cs r w in
 freed_place : (cs : List Cell) (r : Run) (g : ℕ) → WholeRun cs r → get_or (freed r cs) g Free ≡ cond (in_run r g) Free (get_or cs g Free)
 freed_place cs r g w = fill_place cs r.start r.length g Free Free (whole_inside cs r w)
 
+-- a rest that stands was not freed
+pub not_freed : (t : Bool) {x : Cell} → cond t Free x ≡ Rest → x ≡ Rest
+not_freed true e = cc
+not_freed false e = e
+
 -- the other runs stay
 still_whole : (cs : List Cell) (r x : Run) → WholeRun cs r → WholeRun cs x → ((g : ℕ) → in_run x g ≡ true → in_run r g ≡ false) → WholeRun (freed r cs) x
 still_whole cs r x w v apart = record {
   some = v.some;
   cells = λ g lo hi. freed_place cs r g w ∙ (cond-false (in_run r g) _ _ (apart g (within_is x.start x.length g lo hi)) ∙ v.cells g lo hi);
-  end = λ e. go (in_run r (x.start + x.length)) (sym (freed_place cs r (x.start + x.length) w) ∙ e);
+  end = λ e. v.end (not_freed (in_run r (x.start + x.length)) (sym (freed_place cs r (x.start + x.length) w) ∙ e));
 }
-  where
-    go : (t : Bool) → cond t Free (get_or cs (x.start + x.length) Free) ≡ Rest → ⊥
-    go true q = cc
-    go false q = v.end q
 
 others_whole : (cs : List Cell) (r : Run) (rs : List Run) → ((x : Run) → Among x (r ∷ rs) → WholeRun cs x) → Disjoint (r ∷ rs) → (x : Run) → Among x rs → WholeRun (freed r cs) x
 others_whole cs r rs h d x a = still_whole cs r x (h r (inl refl)) (h x (inr a)) λ g y. false_from_ne_true _ λ z.

@@ -1,5 +1,6 @@
 -- Runs that are live, and whose they are.
 use Rattle.std.proofs.Common.{◌≡◌, ℕ, ◌+◌, ◌*◌, ◌/◌, ◌<◌, ◌≤◌, true, false, cond, ◌&&◌, eqb, ltb, leb, List, [], ◌∷◌, ◌++◌, get_or, Some, Option, sym, refl, ap, ◌∙◌, subst, inl, inr, arith}
+use Rattle.std.proofs.lemmas.Option.{same_Some}
 use Rattle.std.proofs.lemmas.List.{append_assoc}
 use lib.Seq.{paste}
 use Rattle.std.proofs.lemmas.Bool.Decides.{nat_tests}
@@ -14,7 +15,7 @@ use Rattle.machine.specs.Runs.{begins_at, in_run, in_runs}
 use Rattle.quarantine.specs.declared.run.Run.{Run}
 use Rattle.history.specs.Ledgers.{Entry, Grant, put_at}
 use Rattle.history.proofs.Authorities.{made_numbers}
-use Rattle.history.proofs.Base.{Among, some_same, within, within_is, within_true}
+use Rattle.history.proofs.Base.{Among, within, within_is, within_true}
 use Rattle.history.proofs.Laws.{Disjoint, get_taken, in_among, run_end, run_first, within_bounds, within_self}
 use Rattle.history.proofs.Invariant.{AllLive, Live, Once, Sound, part}
 use Rattle.history.proofs.Rooms.{room_of}
@@ -102,13 +103,13 @@ module _ {cs : List Cell} {latest : ℕ → Option ℕ} {grants : ℕ → Option
   -- two that share a granule are of one grant, and so are one
   pub same_grant : {k k' : ℕ} {w w' : Run} → Live cs latest grants k w → Live cs latest grants k' w' → (g : ℕ)
       → w.start ≤ g → g < w.start + w.length → w'.start ≤ g → g < w'.start + w'.length → k ≡ k'
-  same_grant l l' g a b c d = let p = l.mine (16 * g) (omega arith) (omega arith) in let q = l'.mine (16 * g) (omega arith) (omega arith) in some_same (sym p ∙ q)
+  same_grant l l' g a b c d = cc (l.mine (16 * g) (omega arith) (omega arith), l'.mine (16 * g) (omega arith) (omega arith))
 
   pub same_run : {k k' : ℕ} {w w' : Run} → Live cs latest grants k w → Live cs latest grants k' w' → (g : ℕ)
       → w.start ≤ g → g < w.start + w.length → w'.start ≤ g → g < w'.start + w'.length → (w.start ≡ w'.start) × (w.length ≡ w'.length)
   same_run {k} {k'} {w} {w'} l l' g a b c d =
       let e = same_grant l l' g a b c d in
-      let z = some_same (sym l.granted ∙ (ap grants e ∙ l'.granted)) in
+      let z = same_Some _ _ (sym l.granted ∙ (ap grants e ∙ l'.granted)) in
       let x : base_of l.whole ≡ base_of l'.whole = ap (λ (v : Grant). base_of v.whole) z in
       let y : top_of l.whole ≡ top_of l'.whole = ap (λ (v : Grant). top_of v.whole) z in
       let p = live_bounds l in
@@ -211,10 +212,7 @@ module _ (cs : List Cell) (latest : ℕ → Option ℕ) (grants : ℕ → Option
       outside g lo hi = false_from_ne_true _ λ y. let q = within_true b n g y in live_taken l g lo hi (room_free g q.0 q.1)
 
       apart : (i : ℕ) → within b n (i / 16) ≡ false → (leb (base_of whole) i && ltb i (top_of whole)) ≡ false
-      apart i o = let s = spans in go (base_of whole) (top_of whole) s.0 s.1
-        where
-          go : (x y : ℕ) → x ≡ 16 * b → y ≡ 16 * b + 16 * n → (leb x i && ltb i y) ≡ false
-          go x y p q = grind (arith, nat_tests)
+      apart i o = let s = spans in grind (arith, nat_tests)
 
   pub live_new : Live grown later more k₀ (record { start = b; length = n })
   live_new = record {

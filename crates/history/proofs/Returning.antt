@@ -15,7 +15,7 @@ use Rattle.history.specs.Ledgers.{Ledger, empty_ledger, note, noted_all}
 use Rattle.history.specs.Provenance.{ledger}
 use Rattle.history.specs.Release.{FreedBySweep, IsFree, MemoryReturnsWhenTheSweepEnds, NoShut, NoShuts, NoneFree, Returns, Waits, granules_named, granules_named_in, granules_since, outcomes_since, run_from}
 use Rattle.history.proofs.Authorities.{made_numbers}
-use Rattle.history.proofs.Base.{Among, among_append, among_left, among_push, among_right, ok_same, within, within_true}
+use Rattle.history.proofs.Base.{Among, among_append, among_left, among_push, among_right, within, within_true}
 use Rattle.history.proofs.Invariant.{Inv, Live}
 use Rattle.history.proofs.Changes.{painted_released}
 use Rattle.history.proofs.Laws.{get_taken, in_among}
@@ -77,7 +77,7 @@ freed_joins : (K : Fixed) (s : State) {c n : ℕ} {d : Effect} → View K s (Cal
     → Among (run_from s at) ((state_after s d).painted ++ (state_after s d).waiting)
 freed_joins K s v_no at q = cc
 freed_joins K s (v_free a hc hr e own al whole w) at q =
-    let z : base_of a ≡ at = ok_same q in
+    let z : base_of a ≡ at = cc in
     subst (λ (i : ℕ). Among (run_from s i) (s.painted ++ (s.waiting ++ (run_from s (base_of a) ∷ [])))) z
     (among_right s.painted _ _ (among_right s.waiting _ _ (inl refl)))
 

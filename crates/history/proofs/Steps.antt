@@ -1,5 +1,6 @@
 -- Every call, and so every history, keeps the invariant.
 use Rattle.std.proofs.Common.{◌≡◌, ℕ, ◌+◌, ◌-◌, ◌*◌, ◌/◌, ◌<◌, ◌≤◌, false, List, [], ◌∷◌, Some, None, Option, sym, refl, ap, ◌∙◌, subst, arith}
+use Rattle.std.proofs.lemmas.Option.{same_Some}
 use lib.ListN.{length-replicate}
 use lib.Seq.{paste}
 use Rattle.allocator.specs.declared.cell.Cell.TheVariants.{Free}
@@ -13,7 +14,7 @@ use Rattle.machine.specs.Rules.{derived}
 use Rattle.machine.specs.Runs.{in_runs}
 use Rattle.history.specs.Histories.{Sized, outcomes, state_after_all}
 use Rattle.history.specs.Ledgers.{Entry, Ledger, derived_entry, empty_ledger, granted, loaded, note, noted_all, slot, stored, with_entry, with_provenance}
-use Rattle.history.proofs.Base.{none_at, some_same}
+use Rattle.history.proofs.Base.{none_at}
 use Rattle.history.proofs.Changes.{inv_byte, inv_capability, inv_end, inv_free, inv_grant, inv_open, inv_pass, inv_reg, inv_shut, not_painted, whole_made}
 use Rattle.history.proofs.Invariant.{Inv, Sound}
 use Rattle.history.proofs.Laws.{derived_within, reg, reg_fresh, reg_slot, shaped_fresh, within_bounds, within_derived}
@@ -52,7 +53,7 @@ module _ (K : Fixed) (s : State) (b : Ledger) (v : Inv K s b) where
   to_register : (c r : ℕ) → c < 8 → r < 8 → (a : Capability) (e : Option Entry) → Sound s.cells b.latest b.grants a e → in_runs s.painted (base_of a / 16) ≡ false
       → Inv K (with_register s c r (Some a)) (with_entry b (slot c r) e)
   to_register c r hc hr a e o new = inv_reg K s b v c r hc hr (Some a) e λ x q.
-      subst (λ (y : Capability). Sound s.cells b.latest b.grants y e × (in_runs s.painted (base_of y / 16) ≡ false)) (some_same q) (o, new)
+      subst (λ (y : Capability). Sound s.cells b.latest b.grants y e × (in_runs s.painted (base_of y / 16) ≡ false)) (same_Some _ _ q) (o, new)
 
   at_slot : (c r : ℕ) (a : Capability) → r < 8 → register_at s c r ≡ Some a → reg s (slot c r) ≡ Some a
   at_slot c r a hr e = sym (reg_slot s c r hr) ∙ e
@@ -91,7 +92,7 @@ inv_step K s b v (v_getc {c} {r} {off} {t} a a' hc hr ht e load caps lt al tag a
     let (x, is, o) = v.mem ((base_of a + off) / 16) tag in
     subst (λ (z : Option Entry). Inv K (with_register s c t (Some a')) (loaded b z off (slot c t))) (sym (v.regs (slot c r) a q).recorded)
     (to_register K s b v c t hc ht a' (b.granules ((base_of a + off) / 16))
-    (subst (λ (y : Capability). Sound s.cells b.latest b.grants y (b.granules ((base_of a + off) / 16))) (some_same (sym is ∙ at)) o) (not_painted K s b v a' new))
+    (subst (λ (y : Capability). Sound s.cells b.latest b.grants y (b.granules ((base_of a + off) / 16))) (same_Some _ _ (sym is ∙ at)) o) (not_painted K s b v a' new))
 inv_step K s b v (v_give {c} {r} {d} {t} a hc hr hd ht e) =
     let q = at_slot K s b v c r a hr e in
     to_register K s b v d t hd ht a (b.registers (slot c r)) (v.regs (slot c r) a q) (v.regs_new (slot c r) a q)

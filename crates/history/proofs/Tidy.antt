@@ -14,7 +14,7 @@ use Rattle.machine.specs.Runs.{in_runs}
 use Rattle.history.specs.Isolation.{Group, GivesApart}
 use Rattle.history.specs.Ledgers.{Entry, Grant, Ledger, derived_entry, granted, loaded, note, slot, stored, with_entry, with_grant, with_granule, with_provenance}
 use Rattle.history.proofs.Authorities.{made_numbers}
-use Rattle.history.proofs.Base.{not_cleared, some_same, within, within_true}
+use Rattle.history.proofs.Base.{not_cleared, within, within_true}
 use Rattle.history.proofs.Changes.{inv_pass, painted_released, painted_wiped_bytes, painted_wiped_tags, whole_made}
 use Rattle.history.proofs.Invariant.{Inv, Sound}
 use Rattle.history.proofs.Laws.{get_image, get_swept, get_taken, reg, reg_emptied, reg_in, reg_put, reg_slot, slot_row, survived}
@@ -203,7 +203,7 @@ derived_side m grants (Some x) lo len p y h n w e has = go (derived x.capability
   where
     go : (q : Option Capability) → with_provenance x.provenance q ≡ Some n → m w.to ≡ y
     go None e = cc
-    go (Some c) e = let k : x.provenance ≡ n.provenance = ap (λ (u : Entry). u.provenance) (some_same e) in h x w refl (ap grants k ∙ has)
+    go (Some c) e = let k : x.provenance ≡ n.provenance = cc in h x w refl (ap grants k ∙ has)
 
 pub tidy_step : (m : Group) (K : Fixed) (s : State) (b : Ledger) → Inv K s b → Tidy m s b → {x : Call} {d : Effect} → GivesApart m x → View K s x d
     → Tidy m (state_after s d) (note b x (outcome d))

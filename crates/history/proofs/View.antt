@@ -21,10 +21,9 @@ use Rattle.machine.specs.Model.{Fixed, State, Effect, denied, accepted, register
 use Rattle.machine.specs.Rules.{perform, unless, held, vacant, permitted, by_memory, at_granule, granted, narrowed, loaded, derived, derived_with, is_revoked, run_under, open_rule, stepped, shut_rule, is_register, is_operand}
 use Rattle.machine.specs.Runs.{begins_at}
 use Rattle.machine.specs.declared.fault.MachineFault.{MachineFault}
-use Rattle.machine.specs.declared.fault.MachineFault.TheVariants.{Align, Bounds, NoCap, Perm}
+use Rattle.machine.specs.declared.fault.MachineFault.TheVariants.{NoCap, Perm}
 use Rattle.quarantine.specs.declared.sweep.Sweep.{Sweep}
 use Rattle.quarantine.specs.declared.sweep.Sweep.TheVariants.{Idle, Open}
-use Rattle.history.proofs.Base.{ok_same}
 use Rattle.history.proofs.Laws.{capability_at}
 
 pub data View (K : Fixed) (s : State) : Call → Effect → Type 0 where
@@ -82,13 +81,7 @@ module _ {K : Fixed} {s : State} {x : Call} where
 
 -- the granule of an access
 pub granule_is : (a : Capability) (off g : ℕ) → granule_answer a off ≡ Ok g → (off + 16 ≤ length_of a) × ((base_of a + off) % 16 ≡ 0) × (g ≡ (base_of a + off) / 16)
-granule_is a off g e = go (leb (off + 16) (length_of a)) (eqb ((base_of a + off) % 16) 0) refl refl e
-  where
-    go : (t u : Bool) → leb (off + 16) (length_of a) ≡ t → eqb ((base_of a + off) % 16) 0 ≡ u
-        → cond t (cond u (Ok ((base_of a + off) / 16)) (Err Align)) (Err Bounds) ≡ Ok g → (off + 16 ≤ length_of a) × ((base_of a + off) % 16 ≡ 0) × (g ≡ (base_of a + off) / 16)
-    go true true p q r = (leb-true _ _ p, eqb-true _ _ q, sym (ok_same r))
-    go true false p q r = cc
-    go false u p q r = cc
+granule_is a off g e = grind (arith, nat_tests)
 
 module _ (K : Fixed) (s : State) (c r n : ℕ) (hc : c < 8) (hr : r < 8) (pos : 0 < n) (same : K.memory_granules ≡ K.allocator_granules) where
   abbrev Comes : Allocation → Type 0
