@@ -1,6 +1,7 @@
 -- Two histories that agree once the group's own calls are struck out look the same to the others.
 use Rattle.std.proofs.Common.{◌≡◌, ◌*◌, ◌/◌, Bool, true, false, cond, ◌&&◌, eqb, ltb, List, [], ◌∷◌, get_or, replicate, sym, refl, ap, ◌∙◌, subst, inl, inr}
-use Rattle.std.proofs.lemmas.Bool.{cond-true, cond-false, cases_Bool}
+use Rattle.std.proofs.lemmas.Option.{none-some}
+use Rattle.std.proofs.lemmas.Bool.{cond-true, cond-false, cases_Bool, false≢true}
 use Rattle.allocator.specs.Allocators.{allocating}
 use Rattle.allocator.specs.declared.cell.Cell.TheVariants.{Free}
 use Rattle.machine.specs.Calls.{Call}
@@ -19,6 +20,9 @@ use Rattle.history.proofs.Laws.{reg_fresh, reg_slot, slot_row}
 use Rattle.history.proofs.Steps.{inv_fresh, inv_step}
 use Rattle.history.proofs.Tidy.{Tidy, tidy_step}
 use Rattle.history.proofs.View.{view}
+
+nil_cons : {A X : Type 0} {a : A} {l : List A} → [] ≡ a ∷ l → X
+nil_cons e = cc
 
 module _ (K : Fixed) (m : Group) where
   -- what two histories come to
@@ -78,7 +82,7 @@ module _ (K : Fixed) (m : Group) where
 
       heads : (y : Bool) → cond y (outcome (perform K s x) ∷ own₁) own₁ ≡ cond y (outcome (perform K t x) ∷ own₂) own₂ → (y ≡ true → outcome (perform K s x) ≡ outcome (perform K t x)) × (own₁ ≡ own₂)
       heads true q = ((λ _. cc), cc)
-      heads false q = ((λ f. cc), q)
+      heads false q = ((λ f. absurd (false≢true f)), q)
 
       k : (outcome (perform K s x) ≡ outcome (perform K t x)) × Core m (state_after s (perform K s x)) (state_after t (perform K t x)) (note b x (outcome (perform K s x))) (note c x (outcome (perform K t x)))
       k = core_kept m K s t b c v v' d d' o x e gp.0 (heads (is_ours m x) own_lines).0
@@ -96,11 +100,11 @@ module _ (K : Fixed) (m : Group) where
   sim_nil [] = λ s t b c v v' d d' o gp gq h1 h2. record { answers = refl; core = o }
   sim_nil (y ∷ q) = elim (cases_Bool (is_struck m y)) [
     | inl e ↦ strip_right y [] q (sim_nil q) e
-    | inr e ↦ λ s t b c v v' d d' o gp gq h1 h2. cc (stays t y q e)
+    | inr e ↦ λ s t b c v v' d d' o gp gq h1 h2. nil_cons (h1 ∙ ap calls_in (stays t y q e))
   ]
 
   sim_kept : (x : Call) (p : List Call) → ((q : List Call) → Sim p q) → is_struck m x ≡ false → (q : List Call) → Sim (x ∷ p) q
-  sim_kept x p ih e [] = λ s t b c v v' d d' o gp gq h1 h2. cc (stays s x p e)
+  sim_kept x p ih e [] = λ s t b c v v' d d' o gp gq h1 h2. nil_cons (sym h1 ∙ ap calls_in (stays s x p e))
   sim_kept x p ih e (y ∷ q) = elim (cases_Bool (is_struck m y)) [
     | inl f ↦ strip_right y (x ∷ p) q (sim_kept x p ih e q) f
     | inr f ↦ λ s t b c v v' d d' o gp gq h1 h2.
@@ -117,10 +121,10 @@ module _ (K : Fixed) (m : Group) where
   tidy_fresh = record {
     free_tags = λ g e. none_at K.memory_granules g false;
     free_bytes = λ i e. none_at (16 * K.memory_granules) i 0;
-    dated = λ i k e. cc;
+    dated = λ i k e. absurd (none-some _ e);
     even = λ i j e. refl;
-    reg_side = λ i a e. cc (reg_fresh i);
-    mem_side = λ g k w t l. cc;
+    reg_side = λ i a e. absurd (none-some _ (sym (reg_fresh i) ∙ e));
+    mem_side = λ g k w t l. absurd (none-some _ l);
   }
 
   core_fresh : Core m (fresh_state K) (fresh_state K) empty_ledger empty_ledger

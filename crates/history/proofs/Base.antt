@@ -1,8 +1,12 @@
 -- Small facts on tests, options and intervals.
-use Rattle.std.proofs.Common.{◌≡◌, ℕ, ◌+◌, ◌<◌, ◌≤◌, Bool, true, false, cond, ◌&&◌, ltb, leb, ◌⊎◌, List, [], ◌∷◌, ◌++◌, get_or, replicate, refl, inl, inr, arith, rules}
+use Rattle.std.proofs.Common.{◌≡◌, ℕ, ◌+◌, ◌<◌, ◌≤◌, Bool, true, false, cond, ◌&&◌, ltb, leb, ◌⊎◌, List, [], ◌∷◌, ◌++◌, get_or, replicate, refl, inl, inr, arith, rules, Ok, Err, Result}
 use Rattle.std.proofs.lemmas.List.{places}
 use Rattle.std.proofs.lemmas.Bool.Decides.{nat_tests}
 use Rattle.quarantine.specs.declared.run.Run.{Run}
+
+-- `cc` finds it anywhere, but slowly where the machine's invariant is in scope
+pub err_ok : {X E Y : Type 0} {f : E} {x : X} → ◌≡◌ {A = Result X E} (Err f) (Ok x) → Y
+err_ok e = cc
 
 pub none_at : {X : Type 0} (n i : ℕ) (a : X) → get_or (replicate n a) i a ≡ a
 none_at n i a = search (rules, places)

@@ -47,6 +47,12 @@ tagged_in [] g e = cc
 tagged_in (x ∷ ts) zero e = omega arith
 tagged_in (x ∷ ts) (suc g) e = let h = tagged_in ts g e in omega arith
 
+pub idle_open : {X : Type 0} {p : ℕ} → Idle ≡ Open p → X
+idle_open e = cc
+
+pub open_same : {p q : ℕ} → Open p ≡ Open q → p ≡ q
+open_same e = cc
+
 module _ (K : Fixed) (s : State) (b : Ledger) (v : Inv K s b) where
   -- what is stored at a passed granule is not painted
   pub mem_new : (g : ℕ) → get_or s.tags g false ≡ true → (a : Capability) → capability_at s.bytes g ≡ Some a → (p : ℕ) → s.sweep ≡ Open p → g < p → in_runs s.painted (base_of a / 16) ≡ false
@@ -115,9 +121,9 @@ module _ (K : Fixed) (s : State) (b : Ledger) (v : Inv K s b) where
     once = rw append-nil (once_right s.painted s.waiting v.once);
     apart = λ r x. absurd x;
     numbered = v.numbered;
-    idle = λ e. cc;
+    idle = λ e. idle_open (sym e);
     regs_new = λ j a e. (kept j a e).1;
-    tags_new = λ p e. let z : 0 ≡ p = cc in (omega arith, λ g lt t. absurd (omega arith));
+    tags_new = λ p e. let z : 0 ≡ p = open_same e in (omega arith, λ g lt t. absurd (omega arith));
   }
     where
       kept : (j : ℕ) (a : Capability) → reg (with_painted s) j ≡ Some a → (reg s j ≡ Some a) × (in_runs s.waiting (base_of a / 16) ≡ false)
@@ -133,13 +139,13 @@ module _ (K : Fixed) (s : State) (b : Ledger) (v : Inv K s b) where
         at,
         o,
         λ q e lt.
-            let z : p + k ≡ q = cc in
+            let z : p + k ≡ q = open_same e in
             elim (cases_lt g p) [
               | inl h ↦ mem_new g old a at p sw h
               | inr h ↦ ap (λ (x : ℕ). in_runs s.painted (x / 16)) (sym (base_at s.bytes g a at)) ∙ clear p k g _ out h (omega arith)
             ],
       ))
-      (λ e. cc) (λ q e. let z : p + k ≡ q = cc in omega arith)
+      (λ e. idle_open (sym e)) (λ q e. let z : p + k ≡ q = open_same e in omega arith)
     where
       clear : (p k g : ℕ) (i : Bool) → (within p k g && i) ≡ false → p ≤ g → g < p + k → i ≡ false
       clear p k g i e lo hi = grind (arith, nat_tests)
@@ -190,7 +196,7 @@ module _ (K : Fixed) (s : State) (b : Ledger) (v : Inv K s b) where
     numbered = v.numbered;
     idle = λ e. refl;
     regs_new = λ j a e. refl;
-    tags_new = λ q e. cc;
+    tags_new = λ q e. idle_open e;
   }
     where
       read : (g : ℕ) → in_runs s.painted g ≡ false → capability_at (with_ended s).bytes g ≡ capability_at s.bytes g
@@ -219,7 +225,7 @@ module _ (K : Fixed) (s : State) (b : Ledger) (v : Inv K s b) where
     numbered = v.numbered;
     idle = λ e. refl;
     regs_new = λ j a e. refl;
-    tags_new = λ q e. cc;
+    tags_new = λ q e. idle_open e;
   }
 
   -- a run found whole is the grant's

@@ -1,6 +1,6 @@
 -- Two machines that differ in the group's part alone, and a call that is struck out on one side.
 use Rattle.std.proofs.Common.{◌≡◌, ℕ, ◌+◌, ◌-◌, ◌*◌, ◌/◌, ◌<◌, ◌≤◌, true, false, eqb, List, get_or, Some, Option, sym, ap, ◌∙◌, subst, inl, inr, arith}
-use Rattle.std.proofs.lemmas.Bool.{cases_Bool, cond-false, ne_eqb}
+use Rattle.std.proofs.lemmas.Bool.{cases_Bool, cond-false, ne_eqb, both_ways, false≢true}
 use Rattle.allocator.specs.declared.cell.Cell.{Cell}
 use Rattle.authority.specs.Capabilities.{base_of, top_of}
 use Rattle.authority.specs.declared.capability.Capability.{Capability}
@@ -56,12 +56,12 @@ module _ (m : Group) (K : Fixed) (s t : State) (b c : Ledger) (v : Inv K s b) (d
     bytes = o.bytes;
     tags = o.tags;
     registers = λ j h. reg_put s.registers n r j x v.shaped hn hr
-        ∙ cond-false (eqb j (slot n r)) x (reg s j) (ne_eqb j (slot n r) (λ q. cc (sym y ∙ ap m (sym (slot_row n r hr) ∙ ap (λ (k : ℕ). k / 8) (sym q)) ∙ h))) ∙ o.registers j h;
+        ∙ cond-false (eqb j (slot n r)) x (reg s j) (ne_eqb j (slot n r) (λ q. both_ways _ (ap m (sym (slot_row n r hr) ∙ ap (λ (k : ℕ). k / 8) (sym q)) ∙ h) y)) ∙ o.registers j h;
   }
 
   -- a byte of the group's is none of the others'
   apart_from : (i : ℕ) (a : Capability) → reg s i ≡ Some a → m (i / 8) ≡ true → (x : ℕ) → base_of a / 16 ≤ x / 16 → x / 16 ≤ (top_of a - 1) / 16 → Outside m b x → ⊥
-  apart_from i a e y x lo hi u = cc (reg_owner m K s b v d i a e x lo hi u.0 u.1 u.2 u.3)
+  apart_from i a e y x lo hi u = both_ways _ (sym (reg_owner m K s b v d i a e x lo hi u.0 u.1 u.2 u.3) ∙ u.4) y
 
   left_byte : (i : ℕ) (a : Capability) → reg s i ≡ Some a → m (i / 8) ≡ true → (x n : ℕ) → base_of a ≤ x → x < top_of a → Core m (with_byte s x n) t b c
   left_byte i a e y x n lo hi = record {
@@ -102,4 +102,4 @@ core_struck m K s t b c v d o (v_getc {c = n} {r} {off} {t = u} a a' hc hr ht e 
     (left_reg m K s t b c v d o n u hc ht y _ _)
 core_struck m K s t b c v d o (v_give {c = n} {r} {d = n'} {t = u} a hc hr hd ht e) y gift = left_reg m K s t b c v d o n' u hd ht (sym gift ∙ y) _ _
 core_struck m K s t b c v d o (v_drop {c = n} {r} hc hr) y gift = left_reg m K s t b c v d o n r hc hr y _ _
-core_struck m K s t b c v d o _ y gift = cc
+core_struck m K s t b c v d o _ y gift = absurd (false≢true y)

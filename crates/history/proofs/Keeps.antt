@@ -30,7 +30,7 @@ use Rattle.history.specs.Isolation.{Group, GivesApart, Outside, is_ours, is_stru
 use Rattle.history.specs.Ledgers.{Entry, Ledger, granted as noted_grant, loaded as noted_load, note, noted, slot, stored, with_entry, with_granule}
 use Rattle.history.proofs.Authorities.{made_numbers}
 use Rattle.history.proofs.Both.{core_byte, core_cap, core_end, core_grant, core_paint, core_pass, core_reg, core_shut, core_wait, granule_alike}
-use Rattle.history.proofs.Changes.{inv_pass, whole_made}
+use Rattle.history.proofs.Changes.{inv_pass, open_same, whole_made}
 use Rattle.history.proofs.Core.{Core}
 use Rattle.history.proofs.Invariant.{Inv}
 use Rattle.history.proofs.Laws.{reg_slot, slot_row}
@@ -171,7 +171,7 @@ module _ (m : Group) (K : Fixed) (s t : State) (b c : Ledger) (v : Inv K s b) (v
   two_step : (k : ℕ) (w w' : Sweep) → w ≡ w' → s.sweep ≡ w → t.sweep ≡ w' → Match (Agrees (Call.Step k)) (stepped K.memory_granules s k w) (stepped K.memory_granules t k w')
   two_step k Idle Idle e q q' = m_no
   two_step k (Open p) (Open p') e q q' =
-      let z : p ≡ p' = cc in
+      let z : p ≡ p' = open_same e in
       subst (λ (x : ℕ). Match (Agrees (Call.Step k)) (stepped K.memory_granules s k (Open p)) (stepped K.memory_granules t k (Open x))) z
       (let h = (v.tags_new p q).0 in
       two_cond (leb K.memory_granules (p + k))

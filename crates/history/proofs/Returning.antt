@@ -1,8 +1,8 @@
 -- When runs become free.
-use Rattle.std.proofs.Common.{◌≡◌, ℕ, ◌+◌, ◌<◌, ◌≤◌, Bool, true, false, cond, eqb, ◌⊎◌, List, [], ◌∷◌, ◌++◌, length, get_or, Ok, sym, refl, ap, ◌∙◌, subst, inl, inr, add-zero, arith}
+use Rattle.std.proofs.Common.{◌≡◌, ℕ, ◌+◌, ◌<◌, ◌≤◌, Bool, true, false, ◌⊎◌, List, [], ◌∷◌, ◌++◌, length, get_or, Ok, sym, refl, ap, ◌∙◌, subst, inl, inr, add-zero, arith}
 use Rattle.std.proofs.lemmas.List.{append_assoc, append-nil}
 use Rattle.std.proofs.lemmas.Bool.{cases_Bool, cond-true, cond-false}
-use Rattle.allocator.specs.declared.cell.Cell.TheVariants.{Free, First, Rest}
+use Rattle.allocator.specs.declared.cell.Cell.TheVariants.{Free}
 use Rattle.authority.specs.Capabilities.{base_of}
 use Rattle.machine.specs.Calls.{Call}
 use Rattle.machine.specs.Model.{Effect, Fixed, State, fresh_state, outcome, state_after}
@@ -15,9 +15,9 @@ use Rattle.history.specs.Ledgers.{Ledger, empty_ledger, note, noted_all}
 use Rattle.history.specs.Provenance.{ledger}
 use Rattle.history.specs.Release.{FreedBySweep, IsFree, MemoryReturnsWhenTheSweepEnds, NoShut, NoShuts, NoneFree, Returns, Waits, granules_named, granules_named_in, granules_since, outcomes_since, run_from}
 use Rattle.history.proofs.Authorities.{made_numbers}
-use Rattle.history.proofs.Base.{Among, among_append, among_left, among_push, among_right, within, within_true}
+use Rattle.history.proofs.Base.{Among, among_append, among_left, among_push, among_right, err_ok, within, within_true}
 use Rattle.history.proofs.Invariant.{Inv, Live}
-use Rattle.history.proofs.Changes.{painted_released}
+use Rattle.history.proofs.Changes.{idle_open, open_same, painted_released}
 use Rattle.history.proofs.Laws.{get_taken, in_among}
 use Rattle.history.proofs.Live.{among_in, live_taken}
 use Rattle.history.proofs.Rooms.{Room, room_of}
@@ -75,7 +75,7 @@ stays K s b v _ r am nf = am
 -- the run that an accepted free takes joins the waiting ones
 freed_joins : (K : Fixed) (s : State) {c n : ℕ} {d : Effect} → View K s (Call.Free c n) d → (at : ℕ) → outcome d ≡ Ok at
     → Among (run_from s at) ((state_after s d).painted ++ (state_after s d).waiting)
-freed_joins K s v_no at q = cc
+freed_joins K s v_no at q = err_ok q
 freed_joins K s (v_free a hc hr e own al whole w) at q =
     let z : base_of a ≡ at = cc in
     subst (λ (i : ℕ). Among (run_from s i) (s.painted ++ (s.waiting ++ (run_from s (base_of a) ∷ [])))) z
@@ -123,9 +123,9 @@ module _ (K : Fixed) (s : State) (m : ℕ) (sw : s.sweep ≡ Open m) where
   stay = (rw (add-zero m) sw, refl)
 
   on_step : {x : Call} {d : Effect} → View K s x d → NoShut x (outcome d) → m + granules_named x (outcome d) < K.memory_granules → On s (state_after s d) m (granules_named x (outcome d))
-  on_step (v_open e) h lt = cc
-  on_step (v_pass {k} p pos e l) h lt = let z : p ≡ m = cc in (ap (λ (n : ℕ). Open (n + k)) z, refl)
-  on_step (v_end {k} p pos e l) h lt = let z : p ≡ m = cc in absurd (omega arith)
+  on_step (v_open e) h lt = idle_open (sym e ∙ sw)
+  on_step (v_pass {k} p pos e l) h lt = let z : p ≡ m = open_same (sym e ∙ sw) in (ap (λ (n : ℕ). Open (n + k)) z, refl)
+  on_step (v_end {k} p pos e l) h lt = let z : p ≡ m = open_same (sym e ∙ sw) in absurd (omega arith)
   on_step (v_shut p e) h lt = absurd h
   on_step _ h lt = stay
 
@@ -144,13 +144,13 @@ on_run K (x ∷ q) s m sw h lt =
 -- the step that ends the sweep
 at_end : (K : Fixed) (s : State) (b : Ledger) → Inv K s b → (m k : ℕ) → s.sweep ≡ Open m → K.memory_granules ≤ m + k → {d : Effect} → View K s (Call.Step k) d → (a : ℕ) → outcome d ≡ Ok a
     → (g : ℕ) → in_runs s.painted g ≡ true → get_or (state_after s d).cells g Free ≡ Free
-at_end K s b v m k sw le v_no a q g i = cc
-at_end K s b v m k sw le (v_pass p pos e lt) a q g i = let z : p ≡ m = cc in absurd (omega arith)
+at_end K s b v m k sw le v_no a q g i = err_ok q
+at_end K s b v m k sw le (v_pass p pos e lt) a q g i = let z : p ≡ m = open_same (sym e ∙ sw) in absurd (omega arith)
 at_end K s b v m k sw le (v_end p pos e l) a q g i = painted_released K s b v g ∙ cond-true _ _ _ i
 
 opened : (K : Fixed) (s : State) (b : Ledger) → Inv K s b → {d : Effect} → View K s Call.OpenSweep d → (a : ℕ) → outcome d ≡ Ok a
     → ((state_after s d).sweep ≡ Open 0) × ((state_after s d).painted ≡ s.waiting) × (s.painted ≡ [])
-opened K s b v v_no a q = cc
+opened K s b v v_no a q = err_ok q
 opened K s b v (v_open e) a q = (refl, refl, v.idle e)
 
 -- no granule becomes free in any other way
@@ -344,9 +344,9 @@ pub record Went (K : Fixed) (s : State) (x : Call) (d : Effect) (n : ℕ) : Type
 
 went : (K : Fixed) (s : State) {x : Call} {d : Effect} → View K s x d → (n : ℕ) → (state_after s d).sweep ≡ Open n → Went K s x d n ⊎ ((x ≡ Call.OpenSweep) × (n ≡ 0) × ((a : ℕ) × (outcome d ≡ Ok a)) × ((state_after s d).painted ≡ s.waiting))
 went K s (v_open q) n e = inr (refl, cc, (length s.waiting, refl), refl)
-went K s (v_pass {k} p pos q lt) n e = let z : p + k ≡ n = cc in inl (record { was = p; opens = q; moved = sym z; no_shut = tt; near = inr (omega arith); same = refl })
-went K s (v_end p pos q le) n e = cc
-went K s (v_shut p q) n e = cc
+went K s (v_pass {k} p pos q lt) n e = let z : p + k ≡ n = open_same e in inl (record { was = p; opens = q; moved = sym z; no_shut = tt; near = inr (omega arith); same = refl })
+went K s (v_end p pos q le) n e = idle_open e
+went K s (v_shut p q) n e = idle_open e
 went K s _ n e = inl (record { was = n; opens = e; moved = sym (add-zero n); no_shut = tt; near = inl refl; same = refl })
 
 back_step : (K : Fixed) (p : List Call) (x : Call) → GoesBack K p → GoesBack K (p ++ (x ∷ []))
@@ -394,7 +394,7 @@ back_step K p x all n e = elim (went K s (view K s x) n (subst (λ (y : State). 
         here = sym (ap (after K) (o.history ∙ sym (append_assoc o.before (Call.OpenSweep ∷ []) o.since)) ∙ after_append K (fresh_state K) (o.before ++ (Call.OpenSweep ∷ [])) o.since)
 
 goes_back : (K : Fixed) (p : List Call) → GoesBack K p
-goes_back K p = every (GoesBack K) (back_step K) [] p (λ n e. cc)
+goes_back K p = every (GoesBack K) (back_step K) [] p (λ n e. idle_open e)
 
 -- the one way in which a granule becomes free
 frees : (K : Fixed) (s : State) (b : Ledger) → Inv K s b → {x : Call} {d : Effect} → View K s x d → (g : ℕ) → (IsFree s g → ⊥) → IsFree (state_after s d) g
@@ -406,7 +406,7 @@ frees K s b v (v_grant {n = n} at next hc hr pos same e) g t f = absurd (t (was 
 
     was : (y : Bool) → within at n g ≡ y → IsFree s g
     was true q = let w = within_true at n g q in room.1 g w.0 w.1
-    was false q = cc (cond-false (within at n g) (cond (eqb g at) First Rest) (get_or s.cells g Free) q, get_taken s.cells at n g pos room.0)
+    was false q = rw q at (sym (get_taken s.cells at n g pos room.0) ∙ f)
 frees K s b v (v_end {k} p pos e le) g t f = elim (cases_Bool (in_runs s.painted g)) [
   | inl y ↦ (k, p, refl, e, le, y)
   | inr y ↦ absurd (t (sym (cond-false (in_runs s.painted g) Free (get_or s.cells g Free) y) ∙ (sym (painted_released K s b v g) ∙ f)))

@@ -1,6 +1,7 @@
 -- Every call, and so every history, keeps the invariant.
 use Rattle.std.proofs.Common.{◌≡◌, ℕ, ◌+◌, ◌-◌, ◌*◌, ◌/◌, ◌<◌, ◌≤◌, false, List, [], ◌∷◌, Some, None, Option, sym, refl, ap, ◌∙◌, subst, arith}
-use Rattle.std.proofs.lemmas.Option.{same_Some}
+use Rattle.std.proofs.lemmas.Bool.{both_ways}
+use Rattle.std.proofs.lemmas.Option.{same_Some, none-some}
 use lib.ListN.{length-replicate}
 use lib.Seq.{paste}
 use Rattle.allocator.specs.declared.cell.Cell.TheVariants.{Free}
@@ -15,7 +16,7 @@ use Rattle.machine.specs.Runs.{in_runs}
 use Rattle.history.specs.Histories.{Sized, outcomes, state_after_all}
 use Rattle.history.specs.Ledgers.{Entry, Ledger, derived_entry, empty_ledger, granted, loaded, note, noted_all, slot, stored, with_entry, with_provenance}
 use Rattle.history.proofs.Base.{none_at}
-use Rattle.history.proofs.Changes.{inv_byte, inv_capability, inv_end, inv_free, inv_grant, inv_open, inv_pass, inv_reg, inv_shut, not_painted, whole_made}
+use Rattle.history.proofs.Changes.{idle_open, inv_byte, inv_capability, inv_end, inv_free, inv_grant, inv_open, inv_pass, inv_reg, inv_shut, not_painted, whole_made}
 use Rattle.history.proofs.Invariant.{Inv, Sound}
 use Rattle.history.proofs.Laws.{derived_within, reg, reg_fresh, reg_slot, shaped_fresh, within_bounds, within_derived}
 use Rattle.history.proofs.Live.{sound_base, sound_span, wholly}
@@ -96,7 +97,7 @@ inv_step K s b v (v_getc {c} {r} {off} {t} a a' hc hr ht e load caps lt al tag a
 inv_step K s b v (v_give {c} {r} {d} {t} a hc hr hd ht e) =
     let q = at_slot K s b v c r a hr e in
     to_register K s b v d t hd ht a (b.registers (slot c r)) (v.regs (slot c r) a q) (v.regs_new (slot c r) a q)
-inv_step K s b v (v_drop {c} {r} hc hr) = inv_reg K s b v c r hc hr None None λ a q. cc
+inv_step K s b v (v_drop {c} {r} hc hr) = inv_reg K s b v c r hc hr None None λ a q. absurd (none-some _ q)
 inv_step K s b v (v_open e) = inv_open K s b v e
 inv_step K s b v (v_pass {k} p pos e lt) = inv_pass K s b v p k e (omega arith)
 inv_step K s b v (v_end {k} p pos e le) =
@@ -115,15 +116,15 @@ inv_fresh K h = record {
   l_tags = length-replicate K.memory_granules false;
   l_cells = length-replicate K.allocator_granules Free;
   shaped = shaped_fresh;
-  regs = λ i a e. cc (reg_fresh i);
-  mem = λ g e. cc (none_at K.memory_granules g false);
+  regs = λ i a e. absurd (none-some _ (sym (reg_fresh i) ∙ e));
+  mem = λ g e. absurd (both_ways _ (none_at K.memory_granules g false) e);
   waiting = λ r x. absurd x;
   painted = λ r x. absurd x;
   ends = λ r x. absurd x;
   once = tt;
   apart = λ r x. absurd x;
-  numbered = λ k g e. cc;
+  numbered = λ k g e. absurd (none-some _ e);
   idle = λ e. refl;
   regs_new = λ i a e. refl;
-  tags_new = λ p e. cc;
+  tags_new = λ p e. idle_open e;
 }

@@ -1,9 +1,10 @@
 -- Free granules are clean, and no capability crosses between group and others.
 use Rattle.std.proofs.Common.{◌≡◌, ℕ, ◌+◌, ◌-◌, ◌*◌, ◌/◌, ◌<◌, ◌≤◌, Bool, true, false, cond, ◌&&◌, eqb, ltb, leb, List, get_or, set, Some, None, Option, sym, refl, ap, ◌∙◌, subst, inl, inr, arith}
+use Rattle.std.proofs.lemmas.Option.{none-some, same_Some}
 use lib.Seq.{paste}
-use Rattle.std.proofs.lemmas.Bool.{cases_Bool, cond-false, cond-true, eq-eqb, eqb-true, ne_eqb, false_from_ne_true}
+use Rattle.std.proofs.lemmas.Bool.{cases_Bool, cond-false, cond-true, eq-eqb, eqb-true, ne_eqb, false_from_ne_true, both_ways}
 use Rattle.allocator.specs.declared.cell.Cell.{Cell}
-use Rattle.allocator.specs.declared.cell.Cell.TheVariants.{Free, First, Rest}
+use Rattle.allocator.specs.declared.cell.Cell.TheVariants.{Free}
 use Rattle.allocator.specs.Maps.{run_of}
 use Rattle.authority.specs.Capabilities.{base_of, top_of}
 use Rattle.authority.specs.declared.capability.Capability.{Capability}
@@ -56,7 +57,7 @@ module _ (m : Group) (K : Fixed) (s : State) (b : Ledger) (v : Inv K s b) (d : T
       let u = sound_span o in
       let n = a.nonempty in
       let z = o.live.mine x (omega arith) (omega arith) in
-      let y : o.provenance ≡ k = cc in
+      let y : o.provenance ≡ k = same_Some _ _ (sym z ∙ l) in
       d.reg_side i a e (record { capability = a; provenance = o.provenance }) w o.recorded (ap b.grants y ∙ q)
 
   tidy_reg : (c r : ℕ) → c < 8 → r < 8 → (o : Option Capability) (e : Option Entry) → ((a : Capability) → o ≡ Some a → Side m b.grants e (m c))
@@ -110,7 +111,7 @@ module _ (m : Group) (K : Fixed) (s : State) (b : Ledger) (v : Inv K s b) (d : T
     reg_side = d.reg_side;
     mem_side = λ g k w t l q. elim (cases_Bool (eqb g g₀)) [
       | inl y ↦ rw y (h k w (ap (λ (j : ℕ). b.latest (16 * j)) (sym (eqb-true g g₀ y)) ∙ l) q)
-      | inr n ↦ rw n (d.mem_side g k w (cc (tag g, cond-false (eqb g g₀) true (get_or s.tags g false) n)) l q)
+      | inr n ↦ rw n (d.mem_side g k w (rw n at (sym (tag g) ∙ t)) l q)
     ];
   }
     where
@@ -123,21 +124,19 @@ module _ (m : Group) (K : Fixed) (s : State) (b : Ledger) (v : Inv K s b) (d : T
     free_tags = λ g e. d.free_tags g (was_free g e);
     free_bytes = λ i e. d.free_bytes i (was_free (i / 16) e);
     dated = λ i k e. (elim (cases_Bool (fresh_byte i)) [
-      | inl y ↦ let e' = rw y at e in let z : b.next ≡ k = cc in omega arith
+      | inl y ↦ let z : b.next ≡ k = same_Some _ _ (rw y at e) in omega arith
       | inr x ↦ let q = d.dated i k (rw x at e) in omega arith
     ]);
     even = λ i j e. ap (λ (x : Bool). cond x (Some b.next) (b.latest i)) (span_same (base_of it) (top_of it) at n i j from to e) ∙ ap (λ (x : Option ℕ). cond (fresh_byte j) (Some b.next) x) (d.even i j e);
     reg_side = λ j a e. elim (cases_Bool (eqb j (slot c r))) [
       | inl y ↦ λ q w eq has.
-          let eq' = rw y at eq in
-          let k : b.next ≡ q.provenance = cc in
-          let has' = rw (eq-eqb q.provenance b.next (sym k)) at has in
-          let t : c ≡ w.to = cc in
+          let k : b.next ≡ q.provenance = ap (λ (x : Entry). x.provenance) (same_Some _ _ (rw y at eq)) in
+          let t : c ≡ w.to = ap (λ (x : Grant). x.to) (same_Some _ _ (rw (eq-eqb q.provenance b.next (sym k)) at has)) in
           ap m (omega (arith, eqb-true j (slot c r) y))
       | inr x ↦ let was = rw x at (sym (there j) ∙ e) in rw x (older (v.regs j a was) (d.reg_side j a was))
     ];
     mem_side = λ g k w t l q. elim (cases_Bool (fresh_byte (16 * g))) [
-      | inl y ↦ let z = span_in (base_of it) (top_of it) at n (16 * g) from to y in cc (d.free_tags g (rm.1 g (omega arith) (omega arith)))
+      | inl y ↦ let z = span_in (base_of it) (top_of it) at n (16 * g) from to y in absurd (both_ways _ (d.free_tags g (rm.1 g (omega arith) (omega arith))) t)
       | inr x ↦ let l' = rw x at l in
           let lt = d.dated (16 * g) k l' in
           older (v.mem g t).2 (d.mem_side g k w t l' (rw (ne_eqb k b.next (omega arith)) at q))
@@ -155,21 +154,21 @@ module _ (m : Group) (K : Fixed) (s : State) (b : Ledger) (v : Inv K s b) (d : T
 
       older : {a : Capability} {o : Option Entry} {y : Bool} → Sound s.cells b.latest b.grants a o → Side m b.grants o y → Side m more o y
       older w h q g eq has =
-          let z : w.provenance ≡ q.provenance = cc in
+          let z : w.provenance ≡ q.provenance = ap (λ (x : Entry). x.provenance) (same_Some _ _ (sym w.recorded ∙ eq)) in
           let lt = (v.numbered w.provenance _ w.live.granted).0 in
           h q g eq (rw (ne_eqb q.provenance b.next (omega arith)) at has)
 
       was_free : (g : ℕ) → get_or (paste s.cells at (run_of n) n) g Free ≡ Free → get_or s.cells g Free ≡ Free
       was_free g e = elim (cases_Bool (within at n g)) [
         | inl y ↦ let z = within_true at n g y in rm.1 g z.0 z.1
-        | inr x ↦ cc (get_taken s.cells at n g pos rm.0, cond-false (within at n g) (cond (eqb g at) First Rest) (get_or s.cells g Free) x)
+        | inr x ↦ rw x at (sym (get_taken s.cells at n g pos rm.0) ∙ e)
       ]
 
   -- a change that only takes tags and registers, and leaves the rest
   tidy_fewer : (t : State) → t.cells ≡ s.cells → t.bytes ≡ s.bytes → ((g : ℕ) → get_or t.tags g false ≡ true → get_or s.tags g false ≡ true)
       → ((i : ℕ) (a : Capability) → reg t i ≡ Some a → reg s i ≡ Some a) → Tidy m t b
   tidy_fewer t es eb ht hr = record {
-    free_tags = λ g e. false_from_ne_true _ λ y. cc (ht g y, d.free_tags g (ap (λ (l : List Cell). get_or l g Free) (sym es) ∙ e));
+    free_tags = λ g e. false_from_ne_true _ λ y. both_ways _ (d.free_tags g (ap (λ (l : List Cell). get_or l g Free) (sym es) ∙ e)) (ht g y);
     free_bytes = λ i e. ap (λ (l : List ℕ). get_or l i 0) eb ∙ d.free_bytes i (ap (λ (l : List Cell). get_or l (i / 16) Free) (sym es) ∙ e);
     dated = d.dated;
     even = d.even;
@@ -242,7 +241,7 @@ tidy_step m K s b v t gift (v_getc {c} {r} {off} {t = u} a a' hc hr ht e al al' 
     (t.mem_side ((base_of a + off) / 16) o.provenance _ tag l o.live.granted))
 tidy_step m K s b v t gift (v_give {c} {r} {d} {t = u} a hc hr hd ht e) = tidy_reg m K s b v t d u hd ht (Some a) _ λ _ _.
     subst (λ (y : Bool). Side m b.grants (b.registers (slot c r)) y) (ap m (slot_row c r hr) ∙ gift) (t.reg_side (slot c r) a (sym (reg_slot s c r hr) ∙ e))
-tidy_step m K s b v t gift (v_drop {c} {r} hc hr) = tidy_reg m K s b v t c r hc hr None None λ a q. cc
+tidy_step m K s b v t gift (v_drop {c} {r} hc hr) = tidy_reg m K s b v t c r hc hr None None λ a q. absurd (none-some _ q)
 tidy_step m K s b v t gift (v_open e) = tidy_fewer m K s b v t _ refl refl (λ g x. x) (λ i a q. (survived s.waiting (reg s i) a (sym (reg_emptied s.waiting s.registers i) ∙ q)).0)
 tidy_step m K s b v t gift (v_pass {k} p pos e lt) = tidy_pass m K s b v t p k
 tidy_step m K s b v t gift (v_end {k} p pos e le) =
