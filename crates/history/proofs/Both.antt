@@ -20,7 +20,7 @@ use Rattle.history.proofs.Core.{Core}
 use Rattle.history.proofs.Places.{get_set}
 use Rattle.history.proofs.Rooms.{Room, span_in}
 use Rattle.history.proofs.Invariant.{Inv}
-use Rattle.history.proofs.Laws.{get_image, get_swept, reg_emptied, reg_put}
+use Rattle.history.proofs.Laws.{get_image, get_swept, reg_emptied, reg_put, word_same}
 use Rattle.history.proofs.Tidy.{Tidy}
 
 module _ (m : Group) (K : Fixed) (s t : State) (b c : Ledger) (v : Inv K s b) (v' : Inv K t c) (d : Tidy m s b) (d' : Tidy m t c) (o : Core m s t b c) where
@@ -80,12 +80,7 @@ module _ (m : Group) (K : Fixed) (s t : State) (b c : Ledger) (v : Inv K s b) (v
   byte_alike i j u e = o.bytes j (outside_even i j e u)
 
   word_alike : (i a : ℕ) → Outside m b i → 16 * (i / 16) ≤ a → a + 4 ≤ 16 * (i / 16) + 16 → word_at s.bytes a ≡ word_at t.bytes a
-  word_alike i a u lo hi =
-      let p = byte_alike i a u (omega arith) in
-      let q = byte_alike i (a + 1) u (omega arith) in
-      let x = byte_alike i (a + 2) u (omega arith) in
-      let y = byte_alike i (a + 3) u (omega arith) in
-      λ j. p j + 256 * q j + 65536 * x j + 16777216 * y j
+  word_alike i a u lo hi = word_same s.bytes t.bytes a (λ j l h. byte_alike i j u (omega arith))
 
   pub granule_alike : (i : ℕ) → Outside m b i → granule_at s.bytes s.tags (i / 16) ≡ granule_at t.bytes t.tags (i / 16)
   granule_alike i u =

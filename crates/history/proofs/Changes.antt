@@ -1,8 +1,8 @@
 -- Each change of the machine keeps the invariant.
-use Rattle.std.proofs.Common.{◌≡◌, ℕ, zero, suc, ◌+◌, ◌-◌, ◌*◌, ◌/◌, ◌%◌, ◌<◌, ◌≤◌, Bool, true, false, cond, ◌&&◌, eqb, ltb, ◌≢◌, List, [], ◌∷◌, length, get_or, set, Some, Option, sym, refl, ap, ◌∙◌, subst, inl, inr, arith, length-set}
+use Rattle.std.proofs.Common.{◌≡◌, ℕ, zero, suc, ◌+◌, ◌-◌, ◌*◌, ◌/◌, ◌%◌, ◌<◌, ◌≤◌, Bool, true, false, cond, ◌&&◌, eqb, ltb, ◌≢◌, List, [], ◌∷◌, length, get_or, set, Some, Option, sym, refl, ap, ◌∙◌, subst, inl, inr, arith, length-set, ◌++◌}
 use Rattle.std.proofs.lemmas.Option.{same_Some}
 use Rattle.machine.specs.declared.registers.Registers.{Registers}
-use Rattle.std.proofs.lemmas.List.{append-nil}
+use Rattle.std.proofs.lemmas.List.{append-nil, append_assoc}
 use lib.Seq.{paste}
 use Rattle.std.proofs.lemmas.Bool.Decides.{nat_tests}
 use Rattle.std.proofs.lemmas.Bool.{or_left, cases_Bool, cases_lt, eqb-true, eqb-false, cond-false, lt-ltb, false_from_ne_true}
@@ -26,7 +26,7 @@ use Rattle.history.proofs.Authorities.{made_numbers}
 use Rattle.history.proofs.Base.{Among, among_append, among_left, among_push, among_right, not_cleared, within, within_true}
 use Rattle.history.proofs.Laws.{InsideAll, Shaped, WholeRun, base_at, capability_at, get_released, get_swept, get_taken, get_wiped_bytes, get_wiped_tags, length_image, length_released, length_swept, length_taken, length_wiped_bytes, length_wiped_tags, not_freed, read_image, read_other, read_same, read_set, reg, reg_emptied, reg_in, reg_put, run_end, shaped_emptied, shaped_put, survived}
 use Rattle.history.proofs.Invariant.{Inv, Live, Sound}
-use Rattle.history.proofs.Live.{among_in, begins_append, begins_in, disjoint, grown, later, live_bounds, live_grown, live_kept, live_taken, more, once_left, once_more_of, once_right, sound_base, sound_grown, sound_kept, sound_new, sound_span, whole_run}
+use Rattle.history.proofs.Live.{among_in, begins_append, begins_in, disjoint, grown, later, live_bounds, live_grown, live_kept, live_taken, more, once_left, once_more, once_right, sound_base, sound_grown, sound_kept, sound_new, sound_span, whole_run}
 use Rattle.history.proofs.Places.{get_set}
 use Rattle.history.proofs.Rooms.{room_of}
 
@@ -259,7 +259,7 @@ module _ (K : Fixed) (s : State) (b : Ledger) (v : Inv K s b) where
         | inr q ↦ (λ z. run_end s.cells (base_of a / 16) some (ap (λ (y : Run). get_or s.cells (y.start + y.length) Free) (sym q) ∙ z))
       ]
     ];
-    once = once_more_of s.painted s.waiting (run_under s a) v.once (begins_append s.painted s.waiting (base_of a / 16) (begins_in s.painted (base_of a / 16) (λ r x. (v.painted r x).1.some) (v.regs_new i a e)) new);
+    once = rw (← append_assoc s.painted s.waiting (run_under s a ∷ [])) (once_more (s.painted ++ s.waiting) (run_under s a) v.once (begins_append s.painted s.waiting (base_of a / 16) (begins_in s.painted (base_of a / 16) (λ r x. (v.painted r x).1.some) (v.regs_new i a e)) new));
     apart = λ r x. elim (among_push s.waiting _ r x) [ inl h ↦ v.apart r h | inr q ↦ ap (λ (y : Run). in_runs s.painted y.start) q ∙ v.regs_new i a e ];
     numbered = v.numbered;
     idle = v.idle;

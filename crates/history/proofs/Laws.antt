@@ -146,16 +146,16 @@ capability_at bs g = capability_of (word_at bs (16 * g)) (word_at bs (16 * g + 4
 pub base_at : (bs : List ℕ) (g : ℕ) (c : Capability) → capability_at bs g ≡ Some c → word_at bs (16 * g) ≡ base_of c
 base_at bs g c e = sym (made_numbers (word_at bs (16 * g)) (word_at bs (16 * g + 4)) (get_or bs (16 * g + 8) 0) c e).0
 
+pub word_same : (bs cs : List ℕ) (a : ℕ) → ((i : ℕ) → a ≤ i → i < a + 4 → get_or bs i 0 ≡ get_or cs i 0) → word_at bs a ≡ word_at cs a
+word_same bs cs a h = cc (h a (omega arith) (omega arith), h (a + 1) (omega arith) (omega arith), h (a + 2) (omega arith) (omega arith), h (a + 3) (omega arith) (omega arith))
+
 pub read_same : (bs cs : List ℕ) (g : ℕ) → ((i : ℕ) → 16 * g ≤ i → i < 16 * g + 16 → get_or bs i 0 ≡ get_or cs i 0)
     → (capability_at bs g ≡ capability_at cs g) × (word_at bs (16 * g) ≡ word_at cs (16 * g))
 read_same bs cs g h =
-    let p = fours (16 * g) (omega arith) (omega arith) in
-    let q = fours (16 * g + 4) (omega arith) (omega arith) in
+    let p = word_same bs cs (16 * g) (λ i lo hi. h i (omega arith) (omega arith)) in
+    let q = word_same bs cs (16 * g + 4) (λ i lo hi. h i (omega arith) (omega arith)) in
     let r = h (16 * g + 8) (omega arith) (omega arith) in
     ((λ i. capability_of (p i) (q i) (r i)), p)
-  where
-    fours : (a : ℕ) → 16 * g ≤ a → a + 4 ≤ 16 * g + 16 → word_at bs a ≡ word_at cs a
-    fours a lo hi = cc (h a (omega arith) (omega arith), h (a + 1) (omega arith) (omega arith), h (a + 2) (omega arith) (omega arith), h (a + 3) (omega arith) (omega arith))
 
 pub read_image : (bs : List ℕ) (g : ℕ) (c : Capability) → 16 * g + 16 ≤ length bs → capability_at (with_image bs g (Some c)) g ≡ Some c
 read_image bs g c h = (λ i. capability_of (p i) (q i) (r i)) ∙ image_reads_back c

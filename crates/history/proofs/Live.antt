@@ -1,7 +1,6 @@
 -- Runs that are live, and whose they are.
-use Rattle.std.proofs.Common.{◌≡◌, ℕ, ◌+◌, ◌*◌, ◌/◌, ◌<◌, ◌≤◌, true, false, cond, ◌&&◌, eqb, ltb, leb, List, [], ◌∷◌, ◌++◌, get_or, Some, Option, sym, refl, ap, ◌∙◌, subst, inl, inr, arith}
+use Rattle.std.proofs.Common.{◌≡◌, ℕ, ◌+◌, ◌*◌, ◌/◌, ◌<◌, ◌≤◌, true, false, cond, ◌&&◌, eqb, ltb, leb, List, [], ◌∷◌, ◌++◌, get_or, Some, Option, sym, refl, ap, ◌∙◌, inl, inr, arith}
 use Rattle.std.proofs.lemmas.Option.{same_Some}
-use Rattle.std.proofs.lemmas.List.{append_assoc}
 use lib.Seq.{paste}
 use Rattle.std.proofs.lemmas.Bool.Decides.{nat_tests}
 use Rattle.std.proofs.lemmas.Bool.{or_cases, or_parts, cases_lt, cond-true, cond-false, ne_eqb, eq-eqb, or_left, or_right, false_from_ne_true}
@@ -82,14 +81,6 @@ once_more [] r h n = (refl, tt)
 once_more (x ∷ xs) r h n =
     let q = or_parts (eqb x.start r.start) (begins_at xs r.start) n in
     (begins_append xs (r ∷ []) x.start h.0 (grind (arith, nat_tests)), once_more xs r h.1 q.1)
-
-pub once_more_of : (xs ys : List Run) (r : Run) → Once (xs ++ ys) → begins_at (xs ++ ys) r.start ≡ false → Once (xs ++ (ys ++ (r ∷ [])))
-once_more_of [] ys r h n = once_more ys r h n
-once_more_of (x ∷ xs) ys r h n =
-    let q = or_parts (eqb x.start r.start) (begins_at (xs ++ ys) r.start) n in (
-      subst (λ (t : List Run). begins_at t x.start ≡ false) (append_assoc xs ys (r ∷ [])) (begins_append (xs ++ ys) (r ∷ []) x.start h.0 (grind (arith, nat_tests))),
-      once_more_of xs ys r h.1 q.1,
-    )
 
 module _ {cs : List Cell} {latest : ℕ → Option ℕ} {grants : ℕ → Option Grant} where
   -- none of its granules is free

@@ -205,8 +205,7 @@ joined_by K s _ r am = inl am
 wait_step : (K : Fixed) (p : List Call) (x : Call) → Sized K → AllWait K p → AllWait K (p ++ (x ∷ []))
 wait_step K p x sz all r am = elim (joined_by K s (view K s x) r am') [
   | inl h ↦ waits_more K p x r (all r h) nf
-  | inr h ↦
-      let c = h.0 in let n = h.1 in let at = h.2 in let xe = h.3 in
+  | inr (c, n, at, xe, ok, is) ↦
       let hist : p ++ (x ∷ []) ≡ p ++ (Call.Free c n ∷ []) = ap (λ y. p ++ (y ∷ [])) xe in
       record {
         before = p;
@@ -215,8 +214,8 @@ wait_step K p x sz all r am = elim (joined_by K s (view K s x) r am') [
         since = [];
         at = at;
         history = hist;
-        freed = subst (λ (y : Call). outcome (perform K s y) ≡ Ok at) xe h.4;
-        run = h.5;
+        freed = subst (λ (y : Call). outcome (perform K s y) ≡ Ok at) xe ok;
+        run = is;
         taken = λ xs ys e. subst (λ (l : List Call). NoneFree (after K (p ++ (Call.Free c n ∷ l))) r) (none_left xs ys e) (subst (λ (l : List Call). NoneFree (after K l) r) hist nf);
       }
 ]
@@ -417,28 +416,26 @@ pub freed_by_sweep : (K : Fixed) (p : List Call) (x : Call) (g : ℕ) → Sized 
 freed_by_sweep K p x g sz t f =
     let s = after K p in
     let v = inv_of K p sz in
-    let h = frees K s (ledger K p) v (view K s x) g t (subst (λ (y : State). IsFree y g) (after_more K p x) f) in
-    let k = h.0 in
-    let n = h.1 in
-    let o = goes_back K p n h.3 in
-    let r = among_in s.painted g h.5 in
-    let am : Among r.0 (after K o.before).waiting = subst (λ (l : List Run). Among r.0 l) o.runs r.1 in
-    let pos = (held_some v r.0 (among_left s.painted s.waiting r.0 r.1)).1 in
+    let (k, n, is, op, reach, y) = frees K s (ledger K p) v (view K s x) g t (subst (λ (y : State). IsFree y g) (after_more K p x) f) in
+    let o = goes_back K p n op in
+    let (r, ar, lo, hi) = among_in s.painted g y in
+    let am : Among r (after K o.before).waiting = subst (λ (l : List Run). Among r l) o.runs ar in
+    let pos = (held_some v r (among_left s.painted s.waiting r ar)).1 in
     let lt : n < K.memory_granules = elim o.near [ inl z ↦ omega arith | inr z ↦ z ] in
     record {
       before = o.before;
       since = o.since;
       k = k;
       opened = o.answer;
-      run = r.0;
+      run = r;
       history = o.history;
-      step = h.2;
+      step = is;
       open_accepted = o.accepted_at;
       no_shut = o.no_shut;
       not_before = omega (arith, o.named);
-      reached = omega (arith, o.named, h.4);
-      waited = all_wait K o.before sz r.0 (among_right (after K o.before).painted _ r.0 am);
-      inside = (r.2, r.3);
+      reached = omega (arith, o.named, reach);
+      waited = all_wait K o.before sz r (among_right (after K o.before).painted _ r am);
+      inside = (lo, hi);
     }
 
 pub memory_returns : MemoryReturnsWhenTheSweepEnds

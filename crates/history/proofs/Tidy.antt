@@ -2,7 +2,7 @@
 use Rattle.std.proofs.Common.{◌≡◌, ℕ, ◌+◌, ◌-◌, ◌*◌, ◌/◌, ◌<◌, ◌≤◌, Bool, true, false, cond, ◌&&◌, eqb, ltb, leb, List, get_or, set, Some, None, Option, sym, refl, ap, ◌∙◌, subst, inl, inr, arith}
 use Rattle.std.proofs.lemmas.Option.{none-some, same_Some}
 use lib.Seq.{paste}
-use Rattle.std.proofs.lemmas.Bool.{cases_Bool, cond-false, cond-true, eq-eqb, eqb-true, ne_eqb, false_from_ne_true, both_ways}
+use Rattle.std.proofs.lemmas.Bool.{cases_Bool, cond-false, eq-eqb, eqb-true, ne_eqb, false_from_ne_true, both_ways}
 use Rattle.allocator.specs.declared.cell.Cell.{Cell}
 use Rattle.allocator.specs.declared.cell.Cell.TheVariants.{Free}
 use Rattle.allocator.specs.Maps.{run_of}
@@ -37,10 +37,10 @@ pub record Tidy (m : Group) (s : State) (b : Ledger) : Type 0 where
   pub reg_side : (i : ℕ) (a : Capability) → reg s i ≡ Some a → Side m b.grants (b.registers i) (m (i / 8))
   pub mem_side : (g k : ℕ) (w : Grant) → get_or s.tags g false ≡ true → b.latest (16 * g) ≡ Some k → b.grants k ≡ Some w → Side m b.grants (b.granules g) (m w.to)
 
--- a tag that is off, after a change that may only have cleared it
-clear_still : (t : Bool) {y : Bool} → y ≡ false → cond t false y ≡ false
-clear_still true e = refl
-clear_still false e = e
+-- what is cleared, or was clear before
+clear_still : {X : Type 0} (t : Bool) {x y : X} → (t ≡ false → y ≡ x) → cond t x y ≡ x
+clear_still true h = refl
+clear_still false h = h refl
 
 module _ (m : Group) (K : Fixed) (s : State) (b : Ledger) (v : Inv K s b) (d : Tidy m s b) where
   -- the granule of a register's capability is taken, and belongs to the register's side
@@ -79,7 +79,7 @@ module _ (m : Group) (K : Fixed) (s : State) (b : Ledger) (v : Inv K s b) (d : T
 
   tidy_byte : (a x : ℕ) → a < 16 * K.memory_granules → (get_or s.cells (a / 16) Free ≡ Free → ⊥) → Tidy m (with_byte s a x) b
   tidy_byte a x lt tk = record {
-    free_tags = λ g e. tag g ∙ clear_still (eqb g (a / 16)) (d.free_tags g e);
+    free_tags = λ g e. tag g ∙ clear_still (eqb g (a / 16)) (λ _. d.free_tags g e);
     free_bytes = λ i e. get_set s.bytes a i x 0 (omega (arith, v.l_bytes)) ∙ (elim (cases_Bool (eqb i a)) [
       | inl y ↦ absurd (tk (subst (λ (j : ℕ). get_or s.cells (j / 16) Free ≡ Free) (eqb-true i a y) e))
       | inr n ↦ cond-false (eqb i a) x (get_or s.bytes i 0) n ∙ d.free_bytes i e
@@ -178,14 +178,8 @@ module _ (m : Group) (K : Fixed) (s : State) (b : Ledger) (v : Inv K s b) (d : T
 
   tidy_end : Tidy m (with_ended s) b
   tidy_end = record {
-    free_tags = λ g e. elim (cases_Bool (in_runs s.painted g)) [
-      | inl y ↦ painted_wiped_tags K s b v g ∙ cond-true _ _ _ y
-      | inr n ↦ painted_wiped_tags K s b v g ∙ cond-false _ _ _ n ∙ d.free_tags g (sym (cond-false _ _ _ n) ∙ sym (painted_released K s b v g) ∙ e)
-    ];
-    free_bytes = λ i e. elim (cases_Bool (in_runs s.painted (i / 16))) [
-      | inl y ↦ painted_wiped_bytes K s b v i ∙ cond-true _ _ _ y
-      | inr n ↦ painted_wiped_bytes K s b v i ∙ cond-false _ _ _ n ∙ d.free_bytes i (sym (cond-false _ _ _ n) ∙ sym (painted_released K s b v (i / 16)) ∙ e)
-    ];
+    free_tags = λ g e. painted_wiped_tags K s b v g ∙ clear_still (in_runs s.painted g) (λ n. d.free_tags g (rw n at (sym (painted_released K s b v g) ∙ e)));
+    free_bytes = λ i e. painted_wiped_bytes K s b v i ∙ clear_still (in_runs s.painted (i / 16)) (λ n. d.free_bytes i (rw n at (sym (painted_released K s b v (i / 16)) ∙ e)));
     dated = d.dated;
     even = d.even;
     reg_side = d.reg_side;
