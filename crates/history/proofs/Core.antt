@@ -1,5 +1,5 @@
 -- Two machines that differ in the group's part alone, and a call that is struck out on one side.
-use Rattle.std.proofs.Common.{◌≡◌, ℕ, ◌+◌, ◌-◌, ◌*◌, ◌/◌, ◌<◌, ◌≤◌, true, false, eqb, List, get_or, Some, Option, sym, ap, ◌∙◌, subst, inl, inr, arith}
+use Rattle.std.proofs.Common.{◌≡◌, ℕ, ◌+◌, ◌-◌, ◌*◌, ◌/◌, ◌<◌, ◌≤◌, true, false, eqb, List, get_or, Some, Option, sym, ap, ◌∙◌, inl, inr, arith}
 use Rattle.std.proofs.lemmas.Bool.{cases_Bool, cond-false, ne_eqb, both_ways, false≢true}
 use Rattle.allocator.specs.declared.cell.Cell.{Cell}
 use Rattle.authority.specs.Capabilities.{base_of, top_of}
@@ -9,7 +9,7 @@ use Rattle.machine.specs.Model.{Fixed, State, Effect, outcome, state_after, with
 use Rattle.quarantine.specs.declared.run.Run.{Run}
 use Rattle.quarantine.specs.declared.sweep.Sweep.{Sweep}
 use Rattle.history.specs.Isolation.{Group, GivesApart, Outside, is_struck}
-use Rattle.history.specs.Ledgers.{Entry, Grant, Ledger, loaded, note, slot, stored, with_entry, with_granule}
+use Rattle.history.specs.Ledgers.{Entry, Grant, Ledger, note, slot, with_entry, with_granule}
 use Rattle.history.proofs.Base.{within, within_true}
 use Rattle.history.proofs.Invariant.{Inv}
 use Rattle.history.proofs.Laws.{get_image, reg, reg_put, reg_slot, slot_row}
@@ -95,10 +95,10 @@ core_struck m K s t b c v d o (v_putb {c = n} {r} {off} {v = x} a hc hr e al lt)
     left_byte m K s t b c v d o (slot n r) a (sym (reg_slot s n r hr) ∙ e) (ap m (slot_row n r hr) ∙ y) (base_of a + off) x (omega arith) (omega arith)
 core_struck m K s t b c v d o (v_putc {c = n} {r} {off} {t = u} a a' hc hr ht e e' al al' lt ev) y gift =
     let e₀ = sym (reg_slot s n r hr) ∙ e in
-    subst (λ (q : Option Entry). Core m (with_capability s ((base_of a + off) / 16) a') t (stored b q off (b.registers (slot n u))) c) (sym (v.regs (slot n r) a e₀).recorded)
+    rw (v.regs (slot n r) a e₀).recorded
     (left_cap m K s t b c v d o (slot n r) a e₀ (ap m (slot_row n r hr) ∙ y) ((base_of a + off) / 16) a' (b.registers (slot n u)) (omega arith) (omega arith))
 core_struck m K s t b c v d o (v_getc {c = n} {r} {off} {t = u} a a' hc hr ht e al al' lt ev tag cap new) y gift =
-    subst (λ (q : Option Entry). Core m (with_register s n u (Some a')) t (loaded b q off (slot n u)) c) (sym (v.regs (slot n r) a (sym (reg_slot s n r hr) ∙ e)).recorded)
+    rw (v.regs (slot n r) a (sym (reg_slot s n r hr) ∙ e)).recorded
     (left_reg m K s t b c v d o n u hc ht y _ _)
 core_struck m K s t b c v d o (v_give {c = n} {r} {d = n'} {t = u} a hc hr hd ht e) y gift = left_reg m K s t b c v d o n' u hd ht (sym gift ∙ y) _ _
 core_struck m K s t b c v d o (v_drop {c = n} {r} hc hr) y gift = left_reg m K s t b c v d o n r hc hr y _ _

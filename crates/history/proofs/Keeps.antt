@@ -1,9 +1,8 @@
 -- A call that both histories make has one outcome, and keeps the two machines alike.
 use Rattle.std.proofs.Common.{◌≡◌, ℕ, ◌+◌, ◌-◌, ◌*◌, ◌/◌, ◌%◌, ◌<◌, ◌≤◌, Bool, true, false, cond, not, ◌&&◌, eqb, ltb, leb, length, Some, None, Ok, Err, Option, Result, sym, refl, ap, ◌∙◌, subst, arith}
-use lib.Seq.{paste}
 use Rattle.std.proofs.lemmas.Bool.{and_parts, eqb-true, ltb-true}
 use Rattle.allocator.specs.Allocators.{Allocation, allocating, denied_by, placed}
-use Rattle.allocator.specs.Maps.{run_length, run_of, taken_in}
+use Rattle.allocator.specs.Maps.{run_length, taken_in}
 use Rattle.allocator.specs.declared.fault.AllocatorFault.TheVariants as A
 use Rattle.authority.specs.Capabilities.{base_of, capability_of, capability_over, meet_authority, permissions_of, top_of}
 use Rattle.authority.specs.Masks.{allows}
@@ -18,7 +17,7 @@ use Rattle.memory.specs.declared.granule.Granule.{Granule}
 use Rattle.machine.specs.Answers.{granule_answer, length_of}
 use Rattle.machine.specs.Calls.{Call}
 use Rattle.machine.specs.Faults.{from_memory}
-use Rattle.machine.specs.Model.{Fixed, State, Effect, denied, accepted, outcome, state_after, register_at, with_register, with_map, with_byte, with_capability, with_waiting, with_passed}
+use Rattle.machine.specs.Model.{Fixed, State, Effect, denied, accepted, outcome, state_after, register_at, with_register, with_byte, with_capability, with_waiting, with_passed}
 use Rattle.machine.specs.Rules.{perform, unless, held, vacant, permitted, by_memory, at_granule, granted, narrowed, loaded, wanted, is_revoked, is_whole, run_under, open_rule, stepped, shut_rule, is_register, is_operand}
 use Rattle.machine.specs.Runs.{begins_at, most_runs}
 use Rattle.machine.specs.declared.fault.MachineFault.{MachineFault}
@@ -27,7 +26,7 @@ use Rattle.quarantine.specs.declared.fault.QuarantineFault.TheVariants as Q
 use Rattle.quarantine.specs.declared.sweep.Sweep.{Sweep}
 use Rattle.quarantine.specs.declared.sweep.Sweep.TheVariants.{Idle, Open}
 use Rattle.history.specs.Isolation.{Group, GivesApart, Outside, is_ours, is_struck}
-use Rattle.history.specs.Ledgers.{Entry, Ledger, granted as noted_grant, loaded as noted_load, note, noted, slot, stored, with_entry, with_granule}
+use Rattle.history.specs.Ledgers.{Ledger, note, noted, slot}
 use Rattle.history.proofs.Authorities.{made_numbers}
 use Rattle.history.proofs.Both.{core_byte, core_cap, core_end, core_grant, core_paint, core_pass, core_reg, core_shut, core_wait, granule_alike}
 use Rattle.history.proofs.Changes.{inv_pass, open_same, whole_made}
@@ -214,7 +213,7 @@ module _ (m : Group) (K : Fixed) (s t : State) (b c : Ledger) (v : Inv K s b) (v
         let z = made_numbers _ _ _ w.0 w.1 in
         m_ok (
           refl,
-          subst (λ (q : Option Capability). Core m (with_register (with_map s (paste s.cells x.0 (run_of k) k) x.1) n r q) (with_register (with_map t (paste t.cells x.0 (run_of k) k) x.1) n r q) (noted_grant b n r q) (noted_grant c n r q)) (sym w.1)
+          rw w.1
               (core_grant m K s t b c v v' d d' o n r k x.0 x.1 hn hr rm w.0 z.0 z.1),
         )
 
@@ -272,10 +271,8 @@ module _ (m : Group) (K : Fixed) (s t : State) (b c : Ledger) (v : Inv K s b) (v
       let f₀ = sym (reg_slot t n r q.1) ∙ e' in
       m_ok (
         refl,
-        subst (λ (j : ℕ). Core m (with_capability s j a₂) (with_capability t j a₂) (stored b (b.registers (slot n r)) off (b.registers (slot n u))) (stored c (c.registers (slot n r)) off (c.registers (slot n u)))) (sym h.2)
-            (subst (λ (j : Option Entry). Core m (with_capability s ((base_of a + off) / 16) a₂) (with_capability t ((base_of a + off) / 16) a₂) (stored b j off (b.registers (slot n u))) (stored c (c.registers (slot n r)) off (c.registers (slot n u)))) (sym (v.regs (slot n r) a e₀).recorded)
-            (subst (λ (j : Option Entry). Core m (with_capability s ((base_of a + off) / 16) a₂) (with_capability t ((base_of a + off) / 16) a₂) (with_granule b ((base_of a + off) / 16) (b.registers (slot n u))) (stored c j off (c.registers (slot n u)))) (sym (v'.regs (slot n r) a f₀).recorded)
-            (core_cap m K s t b c v v' d d' o ((base_of a + off) / 16) a₂ _ _ (omega (arith, h.0, reg_top K s b v (slot n r) a e₀))))),
+        rw (h.2, (v.regs (slot n r) a e₀).recorded, (v'.regs (slot n r) a f₀).recorded)
+            (core_cap m K s t b c v v' d d' o ((base_of a + off) / 16) a₂ _ _ (omega (arith, h.0, reg_top K s b v (slot n r) a e₀))),
       )
   two_calls (Call.Getc n r off u) st gift own = two_unless _ _ _ refl λ num.
       let q = registers_are n r n u (is_operand off) num in
@@ -290,9 +287,7 @@ module _ (m : Group) (K : Fixed) (s t : State) (b c : Ledger) (v : Inv K s b) (v
       two_unless _ _ _ refl λ tag.
       two_loaded s t n u (capability_of y.numbers.base y.numbers.top y.numbers.permissions) (λ i. (o.same i).sweep) (λ i. (o.same i).painted) λ a₂. (
         refl,
-        subst (λ (j : Option Entry). Core m (with_register s n u (Some a₂)) (with_register t n u (Some a₂)) (noted_load b j off (slot n u)) (noted_load c (c.registers (slot n r)) off (slot n u))) (sym (v.regs (slot n r) a e₀).recorded)
-            (subst (λ (j : Option Entry). Core m (with_register s n u (Some a₂)) (with_register t n u (Some a₂)) (with_entry b (slot n u) (b.granules ((base_of a + off) / 16))) (noted_load c j off (slot n u))) (sym (v'.regs (slot n r) a f₀).recorded)
-            (core_reg m K s t b c v v' d d' o n u q.0 q.3 (Some a₂) _ _)),
+        rw ((v.regs (slot n r) a e₀).recorded, (v'.regs (slot n r) a f₀).recorded) (core_reg m K s t b c v v' d d' o n u q.0 q.3 (Some a₂) _ _),
       )
   two_calls (Call.Give n r n' u) st gift own = two_unless _ _ _ refl λ num.
       let x = and_parts (is_register n r) (is_register n' u) num in

@@ -62,7 +62,7 @@ stays K s b v (v_free a hc hr e own al whole w) r am nf = elim (among_append s.p
   | inr h ↦ among_right s.painted _ r (among_left s.waiting _ r h)
 ]
 stays K s b v (v_open e) r am nf = elim (among_append s.painted s.waiting r am) [
-  | inl h ↦ absurd (subst (λ (l : List Run). Among r l) (v.idle e) h)
+  | inl h ↦ absurd (rw (v.idle e) at h)
   | inr h ↦ among_left s.waiting [] r h
 ]
 stays K s b v (v_end p pos e le) r am nf = elim (among_append s.painted s.waiting r am) [
@@ -78,8 +78,7 @@ freed_joins : (K : Fixed) (s : State) {c n : ℕ} {d : Effect} → View K s (Cal
 freed_joins K s v_no at q = err_ok q
 freed_joins K s (v_free a hc hr e own al whole w) at q =
     let z : base_of a ≡ at = cc in
-    subst (λ (i : ℕ). Among (run_from s i) (s.painted ++ (s.waiting ++ (run_from s (base_of a) ∷ [])))) z
-    (among_right s.painted _ _ (among_right s.waiting _ _ (inl refl)))
+    rw (← z) (among_right s.painted _ _ (among_right s.waiting _ _ (inl refl)))
 
 -- and it stays as long as no granule of it is free
 stays_all : (K : Fixed) (s : State) (b : Ledger) → Inv K s b → (since : List Call) (r : Run) → Among r (s.painted ++ s.waiting)
@@ -96,7 +95,7 @@ pub waits_held : (K : Fixed) (p : List Call) (r : Run) → Sized K → Waits K p
 waits_held K p r sz w =
     subst (λ (s : State). Among r (s.painted ++ s.waiting)) (sym there)
     (stays_all K t _ (inv_step K s₀ (ledger K w.before) (inv_of K w.before sz) (view K s₀ x)) w.since r joined
-    (λ xs ys e. subst (λ (s : State). NoneFree s r) (after_append K (fresh_state K) w.before (x ∷ xs)) (w.taken xs ys e)))
+    (λ xs ys e. rw (after_append K (fresh_state K) w.before (x ∷ xs)) at (w.taken xs ys e)))
   where
     x : Call
     x = Call.Free w.compartment w.register
@@ -111,7 +110,7 @@ waits_held K p r sz w =
     there = ap (after K) w.history ∙ after_append K (fresh_state K) w.before (x ∷ w.since)
 
     joined : Among r (t.painted ++ t.waiting)
-    joined = subst (λ (y : Run). Among y (t.painted ++ t.waiting)) (sym w.run) (freed_joins K s₀ (view K s₀ x) w.at w.freed)
+    joined = rw w.run (freed_joins K s₀ (view K s₀ x) w.at w.freed)
 
 -- a sweep goes on
 
@@ -214,7 +213,7 @@ wait_step K p x sz all r am = elim (joined_by K s (view K s x) r am') [
         since = [];
         at = at;
         history = hist;
-        freed = subst (λ (y : Call). outcome (perform K s y) ≡ Ok at) xe ok;
+        freed = rw xe at ok;
         run = is;
         taken = λ xs ys e. subst (λ (l : List Call). NoneFree (after K (p ++ (Call.Free c n ∷ l))) r) (none_left xs ys e) (subst (λ (l : List Call). NoneFree (after K l) r) hist nf);
       }
@@ -224,7 +223,7 @@ wait_step K p x sz all r am = elim (joined_by K s (view K s x) r am') [
     s = after K p
 
     am' : Among r ((state_after s (perform K s x)).painted ++ (state_after s (perform K s x)).waiting)
-    am' = subst (λ (y : State). Among r (y.painted ++ y.waiting)) (after_more K p x) am
+    am' = rw (after_more K p x) at am
 
     nf : NoneFree (after K (p ++ (x ∷ []))) r
     nf = held_not_free (inv_of K (p ++ (x ∷ [])) sz) r am
@@ -235,8 +234,8 @@ wait_step K p x sz all r am = elim (joined_by K s (view K s x) r am') [
 
 -- what holds at first and is kept by every call holds after every history
 every : (P : List Call → Type 0) → ((p : List Call) (x : Call) → P p → P (p ++ (x ∷ []))) → (done todo : List Call) → P done → P (done ++ todo)
-every P step done [] h = subst P (sym (append-nil done)) h
-every P step done (x ∷ todo) h = subst P (append_assoc done (x ∷ []) todo) (every P step (done ++ (x ∷ [])) todo (step done x h))
+every P step done [] h = rw append-nil h
+every P step done (x ∷ todo) h = rw append_assoc at (every P step (done ++ (x ∷ [])) todo (step done x h))
 
 pub all_wait : (K : Fixed) (p : List Call) → Sized K → AllWait K p
 all_wait K p sz = every (AllWait K) (λ q x. wait_step K q x sz) [] p (λ r am. absurd am)
@@ -251,12 +250,12 @@ after_shut K s (v_shut p e) r am = am
 pub returned : (K : Fixed) (p q : List Call) (r : Run) (a : ℕ) → Sized K → answer_to K p Call.OpenSweep ≡ Ok a → Waits K p r
     → NoShuts q (outcomes_since K p q) → granules_since K p q < K.memory_granules → Returns K p q r
 returned K p q r a sz acc w un lt = record {
-  not_yet = subst (λ (y : State). NoneFree y r) (sym go_on) taken;
+  not_yet = rw go_on taken;
   then = λ k c ans le g i.
-      subst (λ (y : State). get_or y.cells g Free ≡ Free) (sym (last (Call.Step k)))
-      (at_end K t _ inv (0 + named) k on.0 (omega (arith, n_same)) (view K t (Call.Step k)) c (subst (λ (y : State). outcome (perform K y (Call.Step k)) ≡ Ok c) go_on ans) g (in_among t.painted r g am i.0 i.1));
+      rw (last (Call.Step k))
+      (at_end K t _ inv (0 + named) k on.0 (omega (arith, n_same)) (view K t (Call.Step k)) c (rw go_on at ans) g (in_among t.painted r g am i.0 i.1));
   shut = λ c ans. all_wait K (p ++ (Call.OpenSweep ∷ (q ++ (Call.Shut ∷ [])))) sz r
-      (subst (λ (y : State). Among r (y.painted ++ y.waiting)) (sym (last Call.Shut)) (after_shut K t (view K t Call.Shut) r (among_left t.painted t.waiting r am)));
+      (rw (last Call.Shut) (after_shut K t (view K t Call.Shut) r (among_left t.painted t.waiting r am)));
 }
   where
     s : State
@@ -290,16 +289,16 @@ returned K p q r a sz acc w un lt = record {
     n_same = ap (λ (x : State). granules_named_in q (outcomes K x q)) first_open
 
     on : On o t 0 named
-    on = on_run K q o 0 op.0 (subst (λ (x : State). NoShuts q (outcomes K x q)) first_open un) (omega (arith, n_same))
+    on = on_run K q o 0 op.0 (rw first_open at un) (omega (arith, n_same))
 
     inv : Inv K t (noted_all (note (ledger K p) Call.OpenSweep (outcome (perform K s Call.OpenSweep))) q (outcomes K o q))
     inv = inv_run K q o _ (inv_step K s (ledger K p) inv_s (view K s Call.OpenSweep))
 
     waiting_at : Among r s.waiting
-    waiting_at = subst (λ (l : List Run). Among r (l ++ s.waiting)) op.2 (waits_held K p r sz w)
+    waiting_at = rw op.2 at (waits_held K p r sz w)
 
     am : Among r t.painted
-    am = subst (λ (l : List Run). Among r l) (sym (on.1 ∙ op.1)) waiting_at
+    am = rw (on.1, op.1) waiting_at
 
     taken : NoneFree t r
     taken = held_not_free inv r (among_left t.painted t.waiting r am)
@@ -349,14 +348,14 @@ went K s (v_shut p q) n e = idle_open e
 went K s _ n e = inl (record { was = n; opens = e; moved = sym (add-zero n); no_shut = tt; near = inl refl; same = refl })
 
 back_step : (K : Fixed) (p : List Call) (x : Call) → GoesBack K p → GoesBack K (p ++ (x ∷ []))
-back_step K p x all n e = elim (went K s (view K s x) n (subst (λ (y : State). y.sweep ≡ Open n) (after_more K p x) e)) [
+back_step K p x all n e = elim (went K s (view K s x) n (rw (after_more K p x) at e)) [
   | inl w ↦ on w (all w.was w.opens)
   | inr h ↦ record {
     before = p;
     since = [];
     answer = h.2.0;
     history = ap (λ y. p ++ (y ∷ [])) h.0;
-    accepted_at = subst (λ (y : Call). outcome (perform K s y) ≡ Ok h.2.0) h.0 h.2.1;
+    accepted_at = rw h.0 at h.2.1;
     no_shut = tt;
     named = h.1;
     near = inl h.1;
@@ -377,7 +376,7 @@ back_step K p x all n e = elim (went K s (view K s x) n (subst (λ (y : State). 
       answer = o.answer;
       history = ap (λ l. l ++ (x ∷ [])) o.history ∙ append_assoc o.before (Call.OpenSweep ∷ o.since) (x ∷ []);
       accepted_at = o.accepted_at;
-      no_shut = shuts_more K u o.since x o.no_shut (subst (λ (y : State). NoShut x (outcome (perform K y x))) (sym here) w.no_shut);
+      no_shut = shuts_more K u o.since x o.no_shut (rw here w.no_shut);
       named = w.moved ∙ (ap (λ m. m + granules_named x (outcome d)) o.named ∙ (ap (λ (y : State). granules_since K o.before o.since + granules_named x (outcome (perform K y x))) (sym here) ∙ sym (outcomes_more K u o.since x)));
       near = elim w.near [
         | inl z ↦ (elim o.near [ inl q ↦ inl (omega (arith, w.moved)) | inr q ↦ inr (omega (arith, w.moved)) ])
@@ -416,7 +415,7 @@ pub freed_by_sweep : (K : Fixed) (p : List Call) (x : Call) (g : ℕ) → Sized 
 freed_by_sweep K p x g sz t f =
     let s = after K p in
     let v = inv_of K p sz in
-    let (k, n, is, op, reach, y) = frees K s (ledger K p) v (view K s x) g t (subst (λ (y : State). IsFree y g) (after_more K p x) f) in
+    let (k, n, is, op, reach, y) = frees K s (ledger K p) v (view K s x) g t (rw (after_more K p x) at f) in
     let o = goes_back K p n op in
     let (r, ar, lo, hi) = among_in s.painted g y in
     let am : Among r (after K o.before).waiting = subst (λ (l : List Run). Among r l) o.runs ar in

@@ -10,11 +10,11 @@ use Rattle.authority.specs.Capabilities.{base_of, top_of, capability_of}
 use Rattle.authority.specs.Masks.{all_permissions}
 use Rattle.authority.specs.declared.capability.Capability.{Capability}
 use Rattle.machine.specs.Calls.{Call}
-use Rattle.machine.specs.Model.{Effect, Fixed, State, fresh_state, outcome, register_at, state_after, with_capability, with_map, with_passed, with_register}
+use Rattle.machine.specs.Model.{Effect, Fixed, State, fresh_state, outcome, register_at, state_after, with_map, with_passed, with_register}
 use Rattle.machine.specs.Rules.{derived}
 use Rattle.machine.specs.Runs.{in_runs}
 use Rattle.history.specs.Histories.{Sized, outcomes, state_after_all}
-use Rattle.history.specs.Ledgers.{Entry, Ledger, derived_entry, empty_ledger, granted, loaded, note, noted_all, slot, stored, with_entry, with_provenance}
+use Rattle.history.specs.Ledgers.{Entry, Ledger, derived_entry, empty_ledger, granted, note, noted_all, slot, with_entry, with_provenance}
 use Rattle.history.proofs.Base.{none_at}
 use Rattle.history.proofs.Changes.{idle_open, inv_byte, inv_capability, inv_end, inv_free, inv_grant, inv_open, inv_pass, inv_reg, inv_shut, not_painted, whole_made}
 use Rattle.history.proofs.Invariant.{Inv, Sound}
@@ -68,7 +68,7 @@ module _ (K : Fixed) (s : State) (b : Ledger) (v : Inv K s b) where
       let l = v.l_cells in
       let z = v.sized in
       let (w, made) = whole_made (16 * at) (16 * at + 16 * n) (omega arith) (omega arith) in
-      subst (λ (o : Option Capability). Inv K (with_register (with_map s (paste s.cells at (run_of n) n) next) c r o) (granted b c r o)) (sym made)
+      rw made
       (inv_grant K s b v c r n at next w made hc hr pos same room)
 
 pub inv_step : (K : Fixed) (s : State) (b : Ledger) → Inv K s b → {x : Call} {d : Effect} → View K s x d → Inv K (state_after s d) (note b x (outcome d))
@@ -86,12 +86,12 @@ inv_step K s b v (v_putc {c} {r} {off} {t} a a' hc hr ht e e' store caps lt al) 
     let q = at_slot K s b v c r a hr e in
     let q' = at_slot K s b v c t a' ht e' in
     let top = reg_top K s b v (slot c r) a q in
-    subst (λ (o : Option Entry). Inv K (with_capability s ((base_of a + off) / 16) a') (stored b o off (b.registers (slot c t)))) (sym (v.regs (slot c r) a q).recorded)
+    rw (v.regs (slot c r) a q).recorded
     (inv_capability K s b v ((base_of a + off) / 16) a' (b.registers (slot c t)) (omega arith) (v.regs (slot c t) a' q') (v.regs_new (slot c t) a' q'))
 inv_step K s b v (v_getc {c} {r} {off} {t} a a' hc hr ht e load caps lt al tag at new) =
     let q = at_slot K s b v c r a hr e in
     let (x, is, o) = v.mem ((base_of a + off) / 16) tag in
-    subst (λ (z : Option Entry). Inv K (with_register s c t (Some a')) (loaded b z off (slot c t))) (sym (v.regs (slot c r) a q).recorded)
+    rw (v.regs (slot c r) a q).recorded
     (to_register K s b v c t hc ht a' (b.granules ((base_of a + off) / 16))
     (subst (λ (y : Capability). Sound s.cells b.latest b.grants y (b.granules ((base_of a + off) / 16))) (same_Some _ _ (sym is ∙ at)) o) (not_painted K s b v a' new))
 inv_step K s b v (v_give {c} {r} {d} {t} a hc hr hd ht e) =

@@ -13,7 +13,7 @@ use Rattle.machine.specs.Model.{Fixed, State, Effect, outcome, state_after, with
 use Rattle.machine.specs.Rules.{derived}
 use Rattle.machine.specs.Runs.{in_runs}
 use Rattle.history.specs.Isolation.{Group, GivesApart}
-use Rattle.history.specs.Ledgers.{Entry, Grant, Ledger, derived_entry, granted, loaded, note, slot, stored, with_entry, with_grant, with_granule, with_provenance}
+use Rattle.history.specs.Ledgers.{Entry, Grant, Ledger, derived_entry, note, slot, with_entry, with_grant, with_granule, with_provenance}
 use Rattle.history.proofs.Authorities.{made_numbers}
 use Rattle.history.proofs.Base.{not_cleared, within, within_true}
 use Rattle.history.proofs.Changes.{inv_pass, painted_released, painted_wiped_bytes, painted_wiped_tags, whole_made}
@@ -69,7 +69,7 @@ module _ (m : Group) (K : Fixed) (s : State) (b : Ledger) (v : Inv K s b) (d : T
     even = d.even;
     mem_side = d.mem_side;
     reg_side = λ j a e. let q = sym (there j) ∙ e in elim (cases_Bool (eqb j (slot c r))) [
-      | inl y ↦ let z : c ≡ j / 8 = omega (arith, eqb-true j (slot c r) y) in rw y (subst (λ (x : ℕ). Side m b.grants bo (m x)) z (h a (rw y at q)))
+      | inl y ↦ let z : c ≡ j / 8 = omega (arith, eqb-true j (slot c r) y) in rw y (rw z at (h a (rw y at q)))
       | inr n ↦ rw n (d.reg_side j a (rw n at q))
     ];
   }
@@ -81,7 +81,7 @@ module _ (m : Group) (K : Fixed) (s : State) (b : Ledger) (v : Inv K s b) (d : T
   tidy_byte a x lt tk = record {
     free_tags = λ g e. tag g ∙ clear_still (eqb g (a / 16)) (λ _. d.free_tags g e);
     free_bytes = λ i e. get_set s.bytes a i x 0 (omega (arith, v.l_bytes)) ∙ (elim (cases_Bool (eqb i a)) [
-      | inl y ↦ absurd (tk (subst (λ (j : ℕ). get_or s.cells (j / 16) Free ≡ Free) (eqb-true i a y) e))
+      | inl y ↦ absurd (tk (rw (eqb-true i a y) at e))
       | inr n ↦ cond-false (eqb i a) x (get_or s.bytes i 0) n ∙ d.free_bytes i e
     ]);
     dated = d.dated;
@@ -97,13 +97,13 @@ module _ (m : Group) (K : Fixed) (s : State) (b : Ledger) (v : Inv K s b) (d : T
       → ((k : ℕ) (w : Grant) → b.latest (16 * g₀) ≡ Some k → b.grants k ≡ Some w → Side m b.grants o (m w.to)) → Tidy m (with_capability s g₀ c) (with_granule b g₀ o)
   tidy_cap g₀ c o lt tk h = record {
     free_tags = λ g e. tag g ∙ (elim (cases_Bool (eqb g g₀)) [
-      | inl y ↦ absurd (tk (subst (λ (j : ℕ). get_or s.cells j Free ≡ Free) (eqb-true g g₀ y) e))
+      | inl y ↦ absurd (tk (rw (eqb-true g g₀ y) at e))
       | inr n ↦ cond-false (eqb g g₀) true (get_or s.tags g false) n ∙ d.free_tags g e
     ]);
     free_bytes = λ i e. get_image s.bytes g₀ c i (omega (arith, v.l_bytes)) ∙ (elim (cases_Bool (within (16 * g₀) 16 i)) [
       | inl y ↦ let u = within_true (16 * g₀) 16 i y in
           let z : i / 16 ≡ g₀ = omega arith in
-          absurd (tk (subst (λ (j : ℕ). get_or s.cells j Free ≡ Free) z e))
+          absurd (tk (rw z at e))
       | inr n ↦ cond-false (within (16 * g₀) 16 i) _ (get_or s.bytes i 0) n ∙ d.free_bytes i e
     ]);
     dated = d.dated;
@@ -205,7 +205,7 @@ tidy_step m K s b v t gift (v_grant {c} {r} {n} at next hc hr pos same e) =
     let rm = room_of s.cells at n (K.lawful.answered s.cells s.mark n at next pos e) in
     let w = whole_made (16 * at) (16 * at + 16 * n) (omega arith) (omega (arith, rm.0, v.l_cells, same, v.sized)) in
     let z = made_numbers _ _ _ w.0 w.1 in
-    subst (λ (o : Option Capability). Tidy m (with_register (with_map s (paste s.cells at (run_of n) n) next) c r o) (granted b c r o)) (sym w.1)
+    rw w.1
     (tidy_grant m K s b v t c r n at next hc hr pos rm w.0 z.0 z.1)
 tidy_step m K s b v t gift (v_free a hc hr e own al whole w) = tidy_fewer m K s b v t _ refl refl (λ g x. x) (λ i a e. e)
 tidy_step m K s b v t gift (v_derive {c} {r} {t = u} {lo} {len} {p} a n hc hr ht e q) = tidy_reg m K s b v t c r hc hr (Some n) _ λ _ _.
@@ -218,7 +218,7 @@ tidy_step m K s b v t gift (v_putb {c} {r} {off} {v = x} a hc hr e al lt) =
 tidy_step m K s b v t gift (v_putc {c} {r} {off} {t = u} a a' hc hr ht e e' al al' lt ev) =
     let e₀ = sym (reg_slot s c r hr) ∙ e in
     let o = v.regs (slot c r) a e₀ in
-    subst (λ (q : Option Entry). Tidy m (with_capability s ((base_of a + off) / 16) a') (stored b q off (b.registers (slot c u)))) (sym o.recorded)
+    rw o.recorded
     (tidy_cap m K s b v t ((base_of a + off) / 16) a' (b.registers (slot c u)) (omega (arith, reg_top K s b v (slot c r) a e₀)) (reg_taken m K s b v t (slot c r) a e₀ (base_of a + off) (omega arith) (omega arith)) λ n w l q.
     subst (λ (y : Bool). Side m b.grants (b.registers (slot c u)) y)
     (ap m (slot_row c u ht ∙ sym (slot_row c r hr)) ∙ sym (reg_owner m K s b v t (slot c r) a e₀ (16 * ((base_of a + off) / 16)) (omega arith) (omega arith) n w l q))
@@ -228,13 +228,13 @@ tidy_step m K s b v t gift (v_getc {c} {r} {off} {t = u} a a' hc hr ht e al al' 
     let o = v.regs (slot c r) a e₀ in
     let sp = sound_span o in
     let l = o.live.mine (16 * ((base_of a + off) / 16)) (omega arith) (omega arith) in
-    subst (λ (q : Option Entry). Tidy m (with_register s c u (Some a')) (loaded b q off (slot c u))) (sym o.recorded)
+    rw o.recorded
     (tidy_reg m K s b v t c u hc ht (Some a') (b.granules ((base_of a + off) / 16)) λ _ _.
     subst (λ (y : Bool). Side m b.grants (b.granules ((base_of a + off) / 16)) y)
     (reg_owner m K s b v t (slot c r) a e₀ (16 * ((base_of a + off) / 16)) (omega arith) (omega arith) o.provenance _ l o.live.granted ∙ ap m (slot_row c r hr))
     (t.mem_side ((base_of a + off) / 16) o.provenance _ tag l o.live.granted))
 tidy_step m K s b v t gift (v_give {c} {r} {d} {t = u} a hc hr hd ht e) = tidy_reg m K s b v t d u hd ht (Some a) _ λ _ _.
-    subst (λ (y : Bool). Side m b.grants (b.registers (slot c r)) y) (ap m (slot_row c r hr) ∙ gift) (t.reg_side (slot c r) a (sym (reg_slot s c r hr) ∙ e))
+    rw (slot_row c r hr, gift) at (t.reg_side (slot c r) a (sym (reg_slot s c r hr) ∙ e))
 tidy_step m K s b v t gift (v_drop {c} {r} hc hr) = tidy_reg m K s b v t c r hc hr None None λ a q. absurd (none-some _ q)
 tidy_step m K s b v t gift (v_open e) = tidy_fewer m K s b v t _ refl refl (λ g x. x) (λ i a q. (survived s.waiting (reg s i) a (sym (reg_emptied s.waiting s.registers i) ∙ q)).0)
 tidy_step m K s b v t gift (v_pass {k} p pos e lt) = tidy_pass m K s b v t p k
