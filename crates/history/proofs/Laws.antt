@@ -3,7 +3,7 @@ use Rattle.std.proofs.Common.{◌≡◌, ℕ, zero, suc, ◌+◌, ◌-◌, ◌*�
 use lib.Seq.{paste}
 use Rattle.std.proofs.lemmas.List.Edits.{length-paste}
 use Rattle.std.proofs.lemmas.List.{get_or_default, get_or-drop, get_or_past, get_or-replicate, get_or-set_other, get_or-set_same, length-map, length-set, places}
-use Rattle.std.proofs.lemmas.Bool.{cases_eq, cases_lt, cond-false, cond-true, lt-ltb, ne_eqb, or_right, false_from_ne_true, cases_Bool}
+use Rattle.std.proofs.lemmas.Bool.{cases_eq, cases_lt, cond-false, cond-true, lt-ltb, ne_eqb, or_right, false_from_ne_true, cases_Bool, cond_both}
 use Rattle.std.proofs.lemmas.Bool.Decides.{nat_tests}
 use Rattle.allocator.specs.Allocators.{Allocation, releasing}
 use Rattle.allocator.specs.declared.cell.Cell.{Cell}
@@ -80,11 +80,8 @@ reg_put rs c r j o sh hc hr = elim (cases_eq (j / 8) c) [
 pub shaped_put : (rs : Registers) (c r : ℕ) (o : Option Capability) → Shaped rs → c < 8 → r < 8 → Shaped (with_register_in rs c r o)
 shaped_put rs c r o sh hc hr = record {
   rows = length-set rs.compartments c new ∙ sh.rows;
-  columns = λ k h. elim (cases_eq k c) [
-    | inl e ↦ ap (λ (x : Compartment). length x.registers) (ap (λ (m : ℕ). get_or (set rs.compartments c new) m (record { registers = [] })) e ∙ get_or-set_same rs.compartments c new (record { registers = [] }) (omega (arith, sh.rows)))
-        ∙ (length-set row r o ∙ row_length rs c sh hc)
-    | inr n ↦ ap (λ (x : Compartment). length x.registers) (get_or-set_other rs.compartments c k new (record { registers = [] }) n) ∙ sh.columns k h
-  ];
+  columns = λ k h. rw (get_set rs.compartments c k new (record { registers = [] }) (omega (arith, sh.rows)))
+      (cond_both (eqb k c) _ _ (λ (x : Compartment). length x.registers ≡ 8) (λ _. length-set row r o ∙ row_length rs c sh hc) (λ _. sh.columns k h));
 }
   where
     row : List (Option Capability)
@@ -251,14 +248,9 @@ run_is cs b n z f r e =
 
 pub length_swept : (rs : List Run) (bs : List ℕ) (p k : ℕ) (ts : List Bool) → length (swept_tags rs bs p k ts) ≡ length ts
 length_swept rs bs p zero ts = refl
-length_swept rs bs p (suc k) ts = one (get_or ts' (p + k) false && in_runs rs (word_at bs (16 * (p + k)) / 16)) ∙ length_swept rs bs p k ts
-  where
-    ts' : List Bool
-    ts' = swept_tags rs bs p k ts
-
-    one : (t : Bool) → length (cond t (set ts' (p + k) false) ts') ≡ length ts'
-    one true = length-set ts' (p + k) false
-    one false = refl
+length_swept rs bs p (suc k) ts =
+    let us = swept_tags rs bs p k ts in
+    cond_both (get_or us (p + k) false && in_runs rs (word_at bs (16 * (p + k)) / 16)) _ _ (λ x. length x ≡ length us) (λ _. length-set us (p + k) false) (λ _. refl) ∙ length_swept rs bs p k ts
 
 -- one granule passed
 swept_one : (rs : List Run) (bs : List ℕ) (q g : ℕ) (ts : List Bool) → get_or (swept_tag rs bs q ts) g false ≡ cond (eqb g q && in_runs rs (word_at bs (16 * g) / 16)) false (get_or ts g false)

@@ -2,7 +2,7 @@
 use Rattle.std.proofs.Common.{◌≡◌, ℕ, ◌+◌, ◌-◌, ◌*◌, ◌/◌, ◌%◌, ◌<◌, ◌≤◌, Bool, true, false, cond, ◌&&◌, eqb, ltb, leb, length, get_or, Some, None, Ok, Err, Option, Result, sym, refl, ap, subst, arith}
 use lib.Seq.{paste}
 use Rattle.std.proofs.lemmas.Bool.Decides.{nat_tests}
-use Rattle.std.proofs.lemmas.Bool.{and_parts, eqb-true, leb-false, leb-true, ltb-true, not-true}
+use Rattle.std.proofs.lemmas.Bool.{and_parts, eqb-true, leb-false, leb-true, ltb-true, not-true, cond_both}
 use Rattle.allocator.specs.Allocators.{Allocation, allocating, denied_by, placed}
 use Rattle.allocator.specs.declared.fault.AllocatorFault.TheVariants as A
 use Rattle.allocator.specs.Maps.{run_length, run_of, taken_in}
@@ -75,10 +75,6 @@ module _ {K : Fixed} {s : State} {x : Call} where
   on_granule (Err f) h = v_no
   on_granule (Ok g) h = h g refl
 
-  on_cond : (t : Bool) {d e : Effect} → (t ≡ true → View K s x d) → (t ≡ false → View K s x e) → View K s x (cond t d e)
-  on_cond true h k = h refl
-  on_cond false h k = k refl
-
 -- the granule of an access
 pub granule_is : (a : Capability) (off g : ℕ) → granule_answer a off ≡ Ok g → (off + 16 ≤ length_of a) × ((base_of a + off) % 16 ≡ 0) × (g ≡ (base_of a + off) / 16)
 granule_is a off g e = grind (arith, nat_tests)
@@ -86,10 +82,6 @@ granule_is a off g e = grind (arith, nat_tests)
 module _ (K : Fixed) (s : State) (c r n : ℕ) (hc : c < 8) (hr : r < 8) (pos : 0 < n) (same : K.memory_granules ≡ K.allocator_granules) where
   abbrev Comes : Allocation → Type 0
   Comes al = View K s (Call.Grant c r n) (granted s c r n al al.answer)
-
-  either : (t : Bool) (d e : Allocation) → Comes d → Comes e → Comes (cond t d e)
-  either true d e h k = h
-  either false d e h k = k
 
   at_place : (o : Option (ℕ × ℕ)) → K.place s.cells s.mark n ≡ o → Comes (placed s.cells s.mark n o)
   at_place None e = v_no
@@ -100,8 +92,8 @@ module _ (K : Fixed) (s : State) (c r n : ℕ) (hc : c < 8) (hr : r < 8) (pos : 
       let cs = s.cells in
       let m = s.mark in
       let o = K.place cs m n in
-      either (eqb n 0) (denied_by cs m A.BadNum) (cond (ltb K.most (taken_in cs + n)) (denied_by cs m A.Allowance) (placed cs m n o)) v_no
-      (either (ltb K.most (taken_in cs + n)) (denied_by cs m A.Allowance) (placed cs m n o) v_no (at_place o refl))
+      cond_both (eqb n 0) (denied_by cs m A.BadNum) (cond (ltb K.most (taken_in cs + n)) (denied_by cs m A.Allowance) (placed cs m n o)) Comes (λ _. v_no)
+      (λ _. cond_both (ltb K.most (taken_in cs + n)) (denied_by cs m A.Allowance) (placed cs m n o) Comes (λ _. v_no) (λ _. at_place o refl))
 
 -- what the ranges of operands tell
 pub register_is : (c r : ℕ) → is_register c r ≡ true → (c < 8) × (r < 8)
@@ -185,7 +177,7 @@ view K s (Call.Step k) = on_unless _ _ λ num. go s.sweep refl (ltb-true 0 k (an
   where
     go : (w : Sweep) → s.sweep ≡ w → 0 < k → View K s (Call.Step k) (stepped K.memory_granules s k w)
     go Idle e h = v_no
-    go (Open p) e h = on_cond (leb K.memory_granules (p + k)) (λ t. v_end p h e (leb-true _ _ t)) (λ t. v_pass p h e (leb-false _ _ t))
+    go (Open p) e h = cond_both (leb K.memory_granules (p + k)) _ _ (View K s (Call.Step k)) (λ t. v_end p h e (leb-true _ _ t)) (λ t. v_pass p h e (leb-false _ _ t))
 view K s Call.Shut = go s.sweep refl
   where
     go : (w : Sweep) → s.sweep ≡ w → View K s Call.Shut (shut_rule s w)
