@@ -1,5 +1,6 @@
 -- Every accepted load, store or free is rightful.
 use Rattle.std.proofs.Common.{◌≡◌, ℕ, ◌<◌, ◌≤◌, Some, Ok, sym, ◌∙◌, subst, arith}
+use Rattle.std.proofs.lemmas.Option.{same_Some, none-some}
 use Rattle.authority.specs.Capabilities.{base_of, top_of}
 use Rattle.authority.specs.declared.capability.Capability.{Capability}
 use Rattle.machine.specs.Calls.{Call}
@@ -7,20 +8,21 @@ use Rattle.machine.specs.Model.{Effect, Fixed, State, fresh_state, outcome, regi
 use Rattle.history.specs.Histories.{after}
 use Rattle.history.specs.Ledgers.{Ledger, empty_ledger, slot}
 use Rattle.history.specs.Provenance.{Access, AccessesFollowProvenance, AllowsAll, Rightful, access_of, ledger}
-use Rattle.history.proofs.Base.{err_ok, some_none, some_same}
+use Rattle.history.proofs.Base.{err_ok}
 use Rattle.history.proofs.Invariant.{Inv}
 use Rattle.history.proofs.Laws.{reg_slot}
 use Rattle.history.proofs.Live.{sound_span}
 use Rattle.history.proofs.Steps.{inv_fresh, inv_run}
-use Rattle.history.proofs.View.{View, v_no, v_grant, v_free, v_derive, v_getb, v_putb, v_putc, v_getc, v_give, v_drop, v_open, v_pass, v_end, v_shut, view}
+use Rattle.history.proofs.View.{View, v_free, v_getb, v_getc, v_no, v_putb, v_putc, view}
 
 module _ (K : Fixed) (s : State) (b : Ledger) (v : Inv K s b) where
   -- an access through a register's capability, within it and with the permissions needed
-  through : (u : Access) (a : Capability) → u.register < 8 → register_at s u.compartment u.register ≡ Some a → base_of a ≤ u.low a → u.high a ≤ top_of a → AllowsAll a u.needs → Rightful s b u
-  through u a hr e lo hi perms =
+  through : {w u : Access} → Some w ≡ Some u → (a : Capability) → w.register < 8 → register_at s w.compartment w.register ≡ Some a → base_of a ≤ w.low a → w.high a ≤ top_of a → AllowsAll a w.needs
+      → Rightful s b u
+  through {w = u} {u = u'} same a hr e lo hi perms =
       let o = v.regs (slot u.compartment u.register) a (sym (reg_slot s u.compartment u.register hr) ∙ e) in
       let (x, y, z) = sound_span o in
-      record {
+      subst (Rightful s b) (same_Some _ _ same) (record {
         capability = a;
         provenance = o.provenance;
         from = record { to = o.live.to; whole = o.live.whole };
@@ -31,23 +33,16 @@ module _ (K : Fixed) (s : State) (b : Ledger) (v : Inv K s b) where
         latest = λ i l h. o.live.mine i (omega arith) (omega arith);
         inside = (lo, hi);
         permitted = perms;
-      }
+      })
 
   rightful : (u : Access) {x : Call} {d : Effect} → View K s x d → access_of x ≡ Some u → (n : ℕ) → outcome d ≡ Ok n → Rightful s b u
+  rightful u (v_free a hc hr at own al whole new) e n q = through e a hr at (omega arith) (omega arith) (own, tt)
+  rightful u (v_getb a hc hr at load lt) e n q = through e a hr at (omega arith) (omega arith) (load, tt)
+  rightful u (v_putb a hc hr at store lt) e n q = through e a hr at (omega arith) (omega arith) (store, tt)
+  rightful u (v_putc a a' hc hr ht at at' store caps lt al) e n q = through e a hr at (omega arith) (omega arith) (store, (caps, tt))
+  rightful u (v_getc a a' hc hr ht at load caps lt al tag is new) e n q = through e a hr at (omega arith) (omega arith) (load, (caps, tt))
   rightful u v_no e n q = err_ok q
-  rightful u (v_grant at next hc hr pos same r) e n q = some_none (sym e)
-  rightful u (v_free a hc hr at own al whole new) e n q = subst (Rightful s b) (some_same e) (through _ a hr at (omega arith) (omega arith) (own, tt))
-  rightful u (v_derive a d hc hr ht at is) e n q = some_none (sym e)
-  rightful u (v_getb a hc hr at load lt) e n q = subst (Rightful s b) (some_same e) (through _ a hr at (omega arith) (omega arith) (load, tt))
-  rightful u (v_putb a hc hr at store lt) e n q = subst (Rightful s b) (some_same e) (through _ a hr at (omega arith) (omega arith) (store, tt))
-  rightful u (v_putc a a' hc hr ht at at' store caps lt al) e n q = subst (Rightful s b) (some_same e) (through _ a hr at (omega arith) (omega arith) (store, (caps, tt)))
-  rightful u (v_getc a a' hc hr ht at load caps lt al tag is new) e n q = subst (Rightful s b) (some_same e) (through _ a hr at (omega arith) (omega arith) (load, (caps, tt)))
-  rightful u (v_give a hc hr hd ht at) e n q = some_none (sym e)
-  rightful u (v_drop hc hr) e n q = some_none (sym e)
-  rightful u (v_open w) e n q = some_none (sym e)
-  rightful u (v_pass p pos w lt) e n q = some_none (sym e)
-  rightful u (v_end p pos w le) e n q = some_none (sym e)
-  rightful u (v_shut p w) e n q = some_none (sym e)
+  rightful u _ e n q = absurd (none-some _ e)
 
 pub accesses_follow_provenance : AccessesFollowProvenance
 accesses_follow_provenance K p x u a sized e q = rightful K (after K p) (ledger K p) (inv_run K p (fresh_state K) empty_ledger (inv_fresh K sized)) u (view K (after K p) x) e a q

@@ -1,6 +1,7 @@
 -- Two histories that agree once the group's own calls are struck out look the same to the others.
-use Rattle.std.proofs.Common.{◌≡◌, ℕ, ◌*◌, ◌/◌, Bool, true, false, cond, ◌&&◌, eqb, ltb, List, [], ◌∷◌, get_or, replicate, sym, refl, ap, ◌∙◌, subst, arith}
-use Rattle.std.proofs.lemmas.Bool.{cond-true, cond-false}
+use Rattle.std.proofs.Common.{◌≡◌, ◌*◌, ◌/◌, Bool, true, false, cond, ◌&&◌, eqb, ltb, List, [], ◌∷◌, get_or, replicate, sym, refl, ap, ◌∙◌, subst, inl, inr}
+use Rattle.std.proofs.lemmas.Option.{none-some}
+use Rattle.std.proofs.lemmas.Bool.{cond-true, cond-false, cases_Bool, false≢true}
 use Rattle.allocator.specs.Allocators.{allocating}
 use Rattle.allocator.specs.declared.cell.Cell.TheVariants.{Free}
 use Rattle.machine.specs.Calls.{Call}
@@ -11,7 +12,7 @@ use Rattle.quarantine.specs.declared.sweep.Sweep.TheVariants.{Idle}
 use Rattle.history.specs.Histories.{Outcome, Sized, after, outcomes, state_after_all}
 use Rattle.history.specs.Isolation.{Alike, Every, GivesApart, Group, GroupCannotInterfere, Indistinguishable, Line, calls_in, is_ours, is_struck, left, lines_left, other_outcomes, own_outcomes}
 use Rattle.history.specs.Ledgers.{Ledger, empty_ledger, note, noted_all, slot}
-use Rattle.history.proofs.Base.{no_yes, none_at, some_none}
+use Rattle.history.proofs.Base.{none_at}
 use Rattle.history.proofs.Core.{Core, core_struck, core_sym}
 use Rattle.history.proofs.Invariant.{Inv}
 use Rattle.history.proofs.Keeps.{core_kept}
@@ -21,7 +22,7 @@ use Rattle.history.proofs.Tidy.{Tidy, tidy_step}
 use Rattle.history.proofs.View.{view}
 
 nil_cons : {A X : Type 0} {a : A} {l : List A} → [] ≡ a ∷ l → X
-nil_cons e = let z : ◌≡◌ {A = ℕ} 0 1 = cc in absurd (let f : ⊥ = omega arith in f)
+nil_cons e = cc
 
 module _ (K : Fixed) (m : Group) where
   -- what two histories come to
@@ -81,7 +82,7 @@ module _ (K : Fixed) (m : Group) where
 
       heads : (y : Bool) → cond y (outcome (perform K s x) ∷ own₁) own₁ ≡ cond y (outcome (perform K t x) ∷ own₂) own₂ → (y ≡ true → outcome (perform K s x) ≡ outcome (perform K t x)) × (own₁ ≡ own₂)
       heads true q = ((λ _. cc), cc)
-      heads false q = ((λ f. no_yes (sym f)), q)
+      heads false q = ((λ f. absurd (false≢true f)), q)
 
       k : (outcome (perform K s x) ≡ outcome (perform K t x)) × Core m (state_after s (perform K s x)) (state_after t (perform K t x)) (note b x (outcome (perform K s x))) (note c x (outcome (perform K t x)))
       k = core_kept m K s t b c v v' d d' o x e gp.0 (heads (is_ours m x) own_lines).0
@@ -97,51 +98,38 @@ module _ (K : Fixed) (m : Group) where
 
   sim_nil : (q : List Call) → Sim [] q
   sim_nil [] = λ s t b c v v' d d' o gp gq h1 h2. record { answers = refl; core = o }
-  sim_nil (y ∷ q) = go (is_struck m y) refl (sim_nil q)
-    where
-      go : (w : Bool) → is_struck m y ≡ w → Sim [] q → Sim [] (y ∷ q)
-      go true e ih = strip_right y [] q ih e
-      go false e ih = λ s t b c v v' d d' o gp gq h1 h2. nil_cons (h1 ∙ ap calls_in (stays t y q e))
+  sim_nil (y ∷ q) = elim (cases_Bool (is_struck m y)) [
+    | inl e ↦ strip_right y [] q (sim_nil q) e
+    | inr e ↦ λ s t b c v v' d d' o gp gq h1 h2. nil_cons (h1 ∙ ap calls_in (stays t y q e))
+  ]
 
   sim_kept : (x : Call) (p : List Call) → ((q : List Call) → Sim p q) → is_struck m x ≡ false → (q : List Call) → Sim (x ∷ p) q
   sim_kept x p ih e [] = λ s t b c v v' d d' o gp gq h1 h2. nil_cons (sym h1 ∙ ap calls_in (stays s x p e))
-  sim_kept x p ih e (y ∷ q) = go (is_struck m y) refl (sim_kept x p ih e q)
-    where
-      go : (w : Bool) → is_struck m y ≡ w → Sim (x ∷ p) q → Sim (x ∷ p) (y ∷ q)
-      go true f more = strip_right y (x ∷ p) q more f
-      go false f more = λ s t b c v v' d d' o gp gq h1 h2.
-          let w : x ∷ calls_in (rest_of s x p) ≡ y ∷ calls_in (rest_of t y q) = sym (ap calls_in (stays s x p e)) ∙ h1 ∙ ap calls_in (stays t y q f) in
-          let z : x ≡ y = cc in
-          (subst (λ (u : Call). Sim (x ∷ p) (u ∷ q)) z (keep_both x p q (ih q) e)) s t b c v v' d d' o gp gq h1 h2
+  sim_kept x p ih e (y ∷ q) = elim (cases_Bool (is_struck m y)) [
+    | inl f ↦ strip_right y (x ∷ p) q (sim_kept x p ih e q) f
+    | inr f ↦ λ s t b c v v' d d' o gp gq h1 h2.
+        let w : x ∷ calls_in (rest_of s x p) ≡ y ∷ calls_in (rest_of t y q) = sym (ap calls_in (stays s x p e)) ∙ h1 ∙ ap calls_in (stays t y q f) in
+        let z : x ≡ y = cc in
+        (subst (λ (u : Call). Sim (x ∷ p) (u ∷ q)) z (keep_both x p q (ih q) e)) s t b c v v' d d' o gp gq h1 h2
+  ]
 
   sim : (p q : List Call) → Sim p q
   sim [] q = sim_nil q
-  sim (x ∷ p) q = go (is_struck m x) refl (sim p)
-    where
-      go : (w : Bool) → is_struck m x ≡ w → ((r : List Call) → Sim p r) → Sim (x ∷ p) q
-      go true e ih = strip_left x p q (ih q) e
-      go false e ih = sim_kept x p ih e q
+  sim (x ∷ p) q = elim (cases_Bool (is_struck m x)) [ inl e ↦ strip_left x p q (sim p q) e | inr e ↦ sim_kept x p (sim p) e q ]
 
   tidy_fresh : Tidy m (fresh_state K) empty_ledger
   tidy_fresh = record {
     free_tags = λ g e. none_at K.memory_granules g false;
     free_bytes = λ i e. none_at (16 * K.memory_granules) i 0;
-    dated = λ i k e. some_none (sym e);
+    dated = λ i k e. absurd (none-some _ e);
     even = λ i j e. refl;
-    reg_side = λ i a e. some_none (sym (sym (reg_fresh i) ∙ e));
-    mem_side = λ g k w t l. some_none (sym l);
+    reg_side = λ i a e. absurd (none-some _ (sym (reg_fresh i) ∙ e));
+    mem_side = λ g k w t l. absurd (none-some _ l);
   }
 
   core_fresh : Core m (fresh_state K) (fresh_state K) empty_ledger empty_ledger
   core_fresh = record {
-    latest = refl;
-    grants = refl;
-    next = refl;
-    cells = refl;
-    mark = refl;
-    waiting = refl;
-    painted = refl;
-    sweep = refl;
+    same = refl;
     registers = λ i h. refl;
     bytes = λ i h. refl;
     tags = λ i h. refl;
@@ -169,17 +157,8 @@ module _ (K L : Fixed) (al : Alike K L) where
       let u = sym al.place in
       λ i. unless (is_register c r && (is_operand n && ltb 0 n)) BadNum
       (unless (eqb (p i) (q i)) Sizes (granted s c r n (allocating (u i) s.cells s.mark (w i) n) (allocating (u i) s.cells s.mark (w i) n).answer))
-  perform_alike s (Call.Free c r) = refl
-  perform_alike s (Call.Derive c r t lo len p) = refl
-  perform_alike s (Call.Getb c r off) = refl
-  perform_alike s (Call.Putb c r off v) = refl
-  perform_alike s (Call.Putc c r off t) = refl
-  perform_alike s (Call.Getc c r off t) = refl
-  perform_alike s (Call.Give c r d t) = refl
-  perform_alike s (Call.Drop c r) = refl
-  perform_alike s Call.OpenSweep = refl
   perform_alike s (Call.Step k) = let p = sym al.memory_granules in λ i. unless (is_operand k && ltb 0 k) BadNum (stepped (p i) s k s.sweep)
-  perform_alike s Call.Shut = refl
+  perform_alike s _ = refl
 
   fresh_alike : fresh_state L ≡ fresh_state K
   fresh_alike =

@@ -1,9 +1,8 @@
 -- A call that both histories make has one outcome, and keeps the two machines alike.
-use Rattle.std.proofs.Common.{◌≡◌, ℕ, ◌+◌, ◌-◌, ◌*◌, ◌/◌, ◌%◌, ◌<◌, ◌≤◌, Bool, true, false, cond, not, ◌&&◌, eqb, ltb, leb, List, length, Some, None, Ok, Err, Option, Result, sym, refl, ap, ◌∙◌, subst, arith}
-use lib.Seq.{paste}
+use Rattle.std.proofs.Common.{◌≡◌, ℕ, ◌+◌, ◌-◌, ◌*◌, ◌/◌, ◌%◌, ◌<◌, ◌≤◌, Bool, true, false, cond, not, ◌&&◌, eqb, ltb, leb, length, Some, None, Ok, Err, Option, Result, sym, refl, ap, ◌∙◌, subst, arith}
 use Rattle.std.proofs.lemmas.Bool.{and_parts, eqb-true, ltb-true}
 use Rattle.allocator.specs.Allocators.{Allocation, allocating, denied_by, placed}
-use Rattle.allocator.specs.Maps.{run_length, run_of, taken_in}
+use Rattle.allocator.specs.Maps.{run_length, taken_in}
 use Rattle.allocator.specs.declared.fault.AllocatorFault.TheVariants as A
 use Rattle.authority.specs.Capabilities.{base_of, capability_of, capability_over, meet_authority, permissions_of, top_of}
 use Rattle.authority.specs.Masks.{allows}
@@ -18,36 +17,32 @@ use Rattle.memory.specs.declared.granule.Granule.{Granule}
 use Rattle.machine.specs.Answers.{granule_answer, length_of}
 use Rattle.machine.specs.Calls.{Call}
 use Rattle.machine.specs.Faults.{from_memory}
-use Rattle.machine.specs.Model.{Fixed, State, Effect, denied, accepted, outcome, state_after, register_at, with_register, with_map, with_byte, with_capability, with_waiting, with_passed}
+use Rattle.machine.specs.Model.{Fixed, State, Effect, denied, accepted, outcome, state_after, register_at, with_register, with_byte, with_capability, with_waiting, with_passed}
 use Rattle.machine.specs.Rules.{perform, unless, held, vacant, permitted, by_memory, at_granule, granted, narrowed, loaded, wanted, is_revoked, is_whole, run_under, open_rule, stepped, shut_rule, is_register, is_operand}
 use Rattle.machine.specs.Runs.{begins_at, most_runs}
 use Rattle.machine.specs.declared.fault.MachineFault.{MachineFault}
 use Rattle.machine.specs.declared.fault.MachineFault.TheVariants as F
 use Rattle.quarantine.specs.declared.fault.QuarantineFault.TheVariants as Q
-use Rattle.quarantine.specs.declared.run.Run.{Run}
 use Rattle.quarantine.specs.declared.sweep.Sweep.{Sweep}
 use Rattle.quarantine.specs.declared.sweep.Sweep.TheVariants.{Idle, Open}
 use Rattle.history.specs.Isolation.{Group, GivesApart, Outside, is_ours, is_struck}
-use Rattle.history.specs.Ledgers.{Entry, Ledger, granted as noted_grant, loaded as noted_load, note, noted, slot, stored, with_entry, with_granule}
-use Rattle.history.proofs.Base.{err_ok, no_yes, ok_same, some_none, some_same}
+use Rattle.history.specs.Ledgers.{Ledger, note, noted, slot}
+use Rattle.history.proofs.Authorities.{made_numbers}
 use Rattle.history.proofs.Both.{core_byte, core_cap, core_end, core_grant, core_paint, core_pass, core_reg, core_shut, core_wait, granule_alike}
-use Rattle.history.proofs.Changes.{idle_open, inv_pass, open_same, whole_made}
+use Rattle.history.proofs.Changes.{inv_pass, open_same, whole_made}
 use Rattle.history.proofs.Core.{Core}
 use Rattle.history.proofs.Invariant.{Inv}
-use Rattle.history.proofs.Laws.{made_base, reg_slot, slot_row}
+use Rattle.history.proofs.Laws.{reg_slot, slot_row}
 use Rattle.history.proofs.Live.{sound_span}
-use Rattle.history.proofs.Rooms.{room}
+use Rattle.history.proofs.Rooms.{room_of}
 use Rattle.history.proofs.Steps.{reg_top}
 use Rattle.history.proofs.Tidy.{Tidy, tidy_pass}
-use Rattle.history.proofs.View.{View, granule_is, v_no, v_free, view}
+use Rattle.history.proofs.View.{View, granting_is, granule_is, register_is, registers_are, v_free, v_no, view}
 
 -- the same denial, or two accepted changes that R relates
 pub data Match (R : ℕ → ℕ → State → State → Type 0) : Effect → Effect → Type 0 where
   m_no : {f : MachineFault} → Match R (denied f) (denied f)
   m_ok : {n n' : ℕ} {s t : State} → R n n' s t → Match R (accepted n s) (accepted n' t)
-
-err_same : {X E : Type 0} {x y : E} → ◌≡◌ {A = Result X E} (Err x) (Err y) → x ≡ y
-err_same e = cc
 
 module _ {R : ℕ → ℕ → State → State → Type 0} where
   two_denied : (f f' : MachineFault) → f ≡ f' → Match R (denied f) (denied f')
@@ -55,31 +50,27 @@ module _ {R : ℕ → ℕ → State → State → Type 0} where
 
   two_unless : (p q : Bool) (f : MachineFault) {d e : Effect} → p ≡ q → (p ≡ true → Match R d e) → Match R (unless p f d) (unless q f e)
   two_unless true true f eq h = h refl
-  two_unless true false f eq h = no_yes eq
-  two_unless false true f eq h = no_yes (sym eq)
   two_unless false false f eq h = m_no
+  two_unless _ _ f eq h = cc
 
   two_held : (x y : Option Capability) {k l : Capability → Effect} → x ≡ y → ((a : Capability) → x ≡ Some a → y ≡ Some a → Match R (k a) (l a)) → Match R (held x k) (held y l)
   two_held None None eq h = m_no
-  two_held None (Some a) eq h = some_none (sym eq)
-  two_held (Some a) None eq h = some_none eq
-  two_held (Some a) (Some a') {k} {l} eq h = subst (λ (z : Capability). Match R (k a) (l z)) (some_same eq) (h a refl (sym eq))
+  two_held (Some a) (Some a') {k} {l} eq h = let z : a ≡ a' = cc in subst (λ z. Match R (k a) (l z)) z (h a refl (sym eq))
+  two_held _ _ eq h = cc
 
   two_vacant : (x y : Option Capability) {d e : Effect} → x ≡ y → Match R d e → Match R (vacant x d) (vacant y e)
   two_vacant None None eq h = h
-  two_vacant None (Some a) eq h = some_none (sym eq)
-  two_vacant (Some a) None eq h = some_none eq
   two_vacant (Some a) (Some a') eq h = m_no
+  two_vacant _ _ eq h = cc
 
   two_permitted : (x : Option Permissions) {k l : Permissions → Effect} → ((p : Permissions) → Match R (k p) (l p)) → Match R (permitted x k) (permitted x l)
   two_permitted None h = m_no
   two_permitted (Some p) h = h p
 
   two_memory : {X : Type 0} (x y : Result X MemoryFault) {k l : X → Effect} → x ≡ y → ((a : X) → x ≡ Ok a → Match R (k a) (l a)) → Match R (by_memory x k) (by_memory y l)
-  two_memory (Err f) (Err f') eq h = two_denied (from_memory f) (from_memory f') (ap from_memory (err_same eq))
-  two_memory (Err f) (Ok a) eq h = err_ok eq
-  two_memory (Ok a) (Err f) eq h = err_ok (sym eq)
-  two_memory (Ok a) (Ok a') {k} {l} eq h = subst (λ (z : _). Match R (k a) (l z)) (ok_same eq) (h a refl)
+  two_memory (Err f) (Err f') eq h = two_denied (from_memory f) (from_memory f') (let z : f ≡ f' = cc in ap from_memory z)
+  two_memory (Ok a) (Ok a') {k} {l} eq h = let z : a ≡ a' = cc in subst (λ z. Match R (k a) (l z)) z (h a refl)
+  two_memory _ _ eq h = cc
 
   two_granule : (x : Result ℕ MachineFault) {k l : ℕ → Effect} → ((g : ℕ) → x ≡ Ok g → Match R (k g) (l g)) → Match R (at_granule x k) (at_granule x l)
   two_granule (Err f) h = m_no
@@ -98,9 +89,6 @@ module _ {R : ℕ → ℕ → State → State → Type 0} where
       → ((a : Capability) → R 0 0 (with_register s c r (Some a)) (with_register t c r (Some a))) → Match R (loaded s c r x) (loaded t c r x)
   two_loaded s t c r None p q h = m_no
   two_loaded s t c r (Some a) p q h = two_unless _ _ _ (λ i. not (is_revoked (p i) (q i) a)) λ _. m_ok (h a)
-
-register_is : (c r : ℕ) → is_register c r ≡ true → (c < 8) × (r < 8)
-register_is c r e = let p = and_parts (ltb c 8) (ltb r 8) e in (ltb-true c 8 p.0, ltb-true r 8 p.1)
 
 -- the checks of a free, from the last on
 abbrev freed : State → Capability → Effect
@@ -175,15 +163,12 @@ module _ (m : Group) (K : Fixed) (s t : State) (b c : Ledger) (v : Inv K s b) (v
       (w.provenance, _, w.live.mine x (omega arith) (omega arith), w.live.granted, d.reg_side (slot n r) a e₀ _ _ w.recorded w.live.granted ∙ ap m (slot_row n r hr) ∙ y)
 
   two_open : (w w' : Sweep) → w ≡ w' → Match (Agrees Call.OpenSweep) (open_rule s w) (open_rule t w')
-  two_open Idle Idle e = two_unless _ _ _ (ap (λ (l : List Run). ltb 0 (length l)) o.waiting) λ _. m_ok (ap length o.waiting, core_paint m K s t b c v v' d d' o)
-  two_open Idle (Open p) e = idle_open (sym e)
-  two_open (Open p) Idle e = idle_open e
+  two_open Idle Idle e = two_unless _ _ _ (λ i. ltb 0 (length (o.same i).waiting)) λ _. m_ok ((λ i. length (o.same i).waiting), core_paint m K s t b c v v' d d' o)
   two_open (Open p) (Open p') e = m_no
+  two_open _ _ e = cc
 
   two_step : (k : ℕ) (w w' : Sweep) → w ≡ w' → s.sweep ≡ w → t.sweep ≡ w' → Match (Agrees (Call.Step k)) (stepped K.memory_granules s k w) (stepped K.memory_granules t k w')
   two_step k Idle Idle e q q' = m_no
-  two_step k Idle (Open p) e q q' = idle_open (sym e)
-  two_step k (Open p) Idle e q q' = idle_open e
   two_step k (Open p) (Open p') e q q' =
       let z : p ≡ p' = open_same e in
       subst (λ (x : ℕ). Match (Agrees (Call.Step k)) (stepped K.memory_granules s k (Open p)) (stepped K.memory_granules t k (Open x))) z
@@ -195,21 +180,21 @@ module _ (m : Group) (K : Fixed) (s t : State) (b c : Ledger) (v : Inv K s b) (v
             (inv_pass K s b v p _ q (omega arith)) (inv_pass K t c v' p _ (q' ∙ ap Open (sym z)) (omega arith)) (tidy_pass m K s b v d p _) (tidy_pass m K t c v' d' p _) (core_pass m K s t b c v v' d d' o p (K.memory_granules - p)),
       ))
       (λ _. m_ok (refl, core_pass m K s t b c v v' d d' o p k)))
+  two_step k _ _ e q q' = cc
 
   two_shut : (w w' : Sweep) → w ≡ w' → Match (Agrees Call.Shut) (shut_rule s w) (shut_rule t w')
   two_shut Idle Idle e = m_no
-  two_shut Idle (Open p) e = idle_open (sym e)
-  two_shut (Open p) Idle e = idle_open e
-  two_shut (Open p) (Open p') e = m_ok (ap length o.painted, core_shut m K s t b c v v' d d' o)
+  two_shut (Open p) (Open p') e = m_ok ((λ i. length (o.same i).painted), core_shut m K s t b c v v' d d' o)
+  two_shut _ _ e = cc
 
   -- the group's own frees, answered alike
   two_free : (n r : ℕ) {x y : Effect} → View K s (Call.Free n r) x → View K t (Call.Free n r) y → outcome x ≡ outcome y → Match (Agrees (Call.Free n r)) x y
-  two_free n r (v_no {f = k}) (v_no {f = k'}) e = two_denied k k' (err_same e)
-  two_free n r v_no (v_free a hc hr at own al wh w) e = err_ok e
-  two_free n r (v_free a hc hr at own al wh w) v_no e = err_ok (sym e)
+  two_free n r (v_no {f = k}) (v_no {f = k'}) e = two_denied k k' cc
+  two_free n r v_no (v_free a hc hr at own al wh w) e = cc
+  two_free n r (v_free a hc hr at own al wh w) v_no e = cc
   two_free n r (v_free a hc hr at own al wh w) (v_free a' hc' hr' at' own' al' wh' w') e =
-      let z : base_of a ≡ base_of a' = ok_same e in
-      m_ok (z, core_wait m K s t b c v v' d d' o _ _ (λ i. record { start = z i / 16; length = run_length (o.cells i) (z i / 16) }))
+      let z : base_of a ≡ base_of a' = cc in
+      m_ok (z, core_wait m K s t b c v v' d d' o _ _ (λ i. record { start = z i / 16; length = run_length (o.same i).cells (z i / 16) }))
 
   -- a grant, by what the allocator does
   module _ (n r k : ℕ) (hn : n < 8) (hr : r < 8) (pos : 0 < k) (same : K.memory_granules ≡ K.allocator_granules) where
@@ -223,21 +208,21 @@ module _ (m : Group) (K : Fixed) (s t : State) (b c : Ledger) (v : Inv K s b) (v
     at_place : (q : Option (ℕ × ℕ)) → K.place s.cells s.mark k ≡ q → Comes (placed s.cells s.mark k q) (placed t.cells t.mark k q)
     at_place None e = m_no
     at_place (Some x) e =
-        let rm = room s.cells x.0 k (K.lawful.answered s.cells s.mark k x.0 x.1 pos e) in
+        let rm = room_of s.cells x.0 k (K.lawful.answered s.cells s.mark k x.0 x.1 pos e) in
         let w = whole_made (16 * x.0) (16 * x.0 + 16 * k) (omega arith) (omega (arith, rm.0, v.l_cells, same, v.sized)) in
-        let z = made_base _ _ _ w.0 w.1 in
+        let z = made_numbers _ _ _ w.0 w.1 in
         m_ok (
           refl,
-          subst (λ (q : Option Capability). Core m (with_register (with_map s (paste s.cells x.0 (run_of k) k) x.1) n r q) (with_register (with_map t (paste t.cells x.0 (run_of k) k) x.1) n r q) (noted_grant b n r q) (noted_grant c n r q)) (sym w.1)
+          rw w.1
               (core_grant m K s t b c v v' d d' o n r k x.0 x.1 hn hr rm w.0 z.0 z.1),
         )
 
     two_grant : Comes (allocating K.place s.cells s.mark K.most k) (allocating K.place t.cells t.mark K.most k)
     two_grant =
         subst (λ (q : Bool). Comes (allocating K.place s.cells s.mark K.most k) (cond (eqb k 0) (denied_by t.cells t.mark A.BadNum) (cond q (denied_by t.cells t.mark A.Allowance) (placed t.cells t.mark k (K.place t.cells t.mark k)))))
-        (λ i. ltb K.most (taken_in (o.cells i) + k))
+        (λ i. ltb K.most (taken_in (o.same i).cells + k))
         (subst (λ (q : Option (ℕ × ℕ)). Comes (allocating K.place s.cells s.mark K.most k) (cond (eqb k 0) (denied_by t.cells t.mark A.BadNum) (cond (ltb K.most (taken_in s.cells + k)) (denied_by t.cells t.mark A.Allowance) (placed t.cells t.mark k q))))
-        (λ i. K.place (o.cells i) (o.mark i) k)
+        (λ i. K.place (o.same i).cells (o.same i).mark k)
         (either (eqb k 0) _ _ _ _ m_no (either (ltb K.most (taken_in s.cells + k)) _ _ _ _ m_no (at_place (K.place s.cells s.mark k) refl))))
 
   two_frees : (n r : ℕ) (y : Bool) → m n ≡ y → (m n ≡ true → outcome (perform K s (Call.Free n r)) ≡ outcome (perform K t (Call.Free n r)))
@@ -245,23 +230,19 @@ module _ (m : Group) (K : Fixed) (s t : State) (b c : Ledger) (v : Inv K s b) (v
   two_frees n r true y own = two_free n r (view K s (Call.Free n r)) (view K t (Call.Free n r)) (own y)
   two_frees n r false y own = two_unless _ _ _ refl λ num. two_held _ _ (regs_same n r (register_is n r num).1 y) λ a e e'.
       two_unless (allows (permissions_of a) P.Own) _ F.Perm {d = if_whole s a} {e = if_whole t a} refl λ own'.
-      two_unless (is_whole s a) (is_whole t a) F.NotWhole {d = if_new s a} {e = if_new t a} (λ i. eqb (base_of a % 16) 0 && eqb (length_of a) (16 * run_length (o.cells i) (base_of a / 16))) λ whole.
-      two_unless (not (begins_at s.waiting (base_of a / 16))) _ (F.Quarantine Q.Freed) {d = if_room s a} {e = if_room t a} (λ i. not (begins_at (o.waiting i) (base_of a / 16))) λ wait.
-      two_unless (ltb (length s.waiting + length s.painted) most_runs) _ (F.Quarantine Q.QFull) {d = freed s a} {e = freed t a} (λ i. ltb (length (o.waiting i) + length (o.painted i)) most_runs) λ full.
-      m_ok (refl, core_wait m K s t b c v v' d d' o _ _ (λ i. record { start = base_of a / 16; length = run_length (o.cells i) (base_of a / 16) }))
+      two_unless (is_whole s a) (is_whole t a) F.NotWhole {d = if_new s a} {e = if_new t a} (λ i. eqb (base_of a % 16) 0 && eqb (length_of a) (16 * run_length (o.same i).cells (base_of a / 16))) λ whole.
+      two_unless (not (begins_at s.waiting (base_of a / 16))) _ (F.Quarantine Q.Freed) {d = if_room s a} {e = if_room t a} (λ i. not (begins_at (o.same i).waiting (base_of a / 16))) λ wait.
+      two_unless (ltb (length s.waiting + length s.painted) most_runs) _ (F.Quarantine Q.QFull) {d = freed s a} {e = freed t a} (λ i. ltb (length (o.same i).waiting + length (o.same i).painted) most_runs) λ full.
+      m_ok (refl, core_wait m K s t b c v v' d d' o _ _ (λ i. record { start = base_of a / 16; length = run_length (o.same i).cells (base_of a / 16) }))
 
   two_calls : (x : Call) → is_struck m x ≡ false → GivesApart m x → (is_ours m x ≡ true → outcome (perform K s x) ≡ outcome (perform K t x)) → Match (Agrees x) (perform K s x) (perform K t x)
   two_calls (Call.Grant n r k) st gift own = two_unless _ _ _ refl λ num. two_unless _ _ _ refl λ same.
-      let p = and_parts (is_register n r) (is_operand k && ltb 0 k) num in
-      let q = register_is n r p.0 in
-      let z = and_parts (is_operand k) (ltb 0 k) p.1 in
-      two_grant n r k q.0 q.1 (ltb-true 0 k z.1) (eqb-true _ _ same)
+      let q = granting_is n r k num in
+      two_grant n r k q.0 q.1 q.2 (eqb-true _ _ same)
   two_calls (Call.Free n r) st gift own = two_frees n r (m n) refl own
   two_calls (Call.Derive n r u lo len p) st gift own = two_unless _ _ _ refl λ num. two_permitted (permissions_from p) λ ps.
-      let x = and_parts (is_register n r) (is_register n u && (is_operand lo && is_operand len)) num in
-      let y = and_parts (is_register n u) (is_operand lo && is_operand len) x.1 in
-      let q = register_is n r x.0 in
-      two_held _ _ (regs_same n u (register_is n u y.0).1 st) λ a e e'.
+      let q = registers_are n r n u (is_operand lo && is_operand len) num in
+      two_held _ _ (regs_same n u q.3 st) λ a e e'.
       two_narrowed s t n r (capability_over (meet_authority a.authority (wanted a lo len ps))) λ w.
       (refl, core_reg m K s t b c v v' d d' o n r q.0 q.1 (Some w) _ _)
   two_calls (Call.Getb n r off) st gift own = two_unless _ _ _ refl λ num.
@@ -281,10 +262,8 @@ module _ (m : Group) (K : Fixed) (s t : State) (b c : Ledger) (v : Inv K s b) (v
       two_memory _ _ (λ i. change_at (base_of a + off) (l_bytes i)) λ _ _.
       m_ok (refl, core_byte m K s t b c v v' d d' o (base_of a + off) x (omega (arith, lt, reg_top K s b v (slot n r) a (sym (reg_slot s n r q.1) ∙ e))))
   two_calls (Call.Putc n r off u) st gift own = two_unless _ _ _ refl λ num.
-      let x = and_parts (is_register n r) (is_register n u && is_operand off) num in
-      let q = register_is n r x.0 in
-      let w = register_is n u (and_parts (is_register n u) (is_operand off) x.1).0 in
-      two_held _ _ {k = λ a. held (register_at s n u) (putc_from s off a)} {l = λ a. held (register_at t n u) (putc_from t off a)} (regs_same n r q.1 st) λ a e e'. two_held _ _ {k = putc_from s off a} {l = putc_from t off a} (regs_same n u w.1 st) λ a₂ e₂ e₂'. two_unless _ _ _ refl λ perm.
+      let q = registers_are n r n u (is_operand off) num in
+      two_held _ _ {k = λ a. held (register_at s n u) (putc_from s off a)} {l = λ a. held (register_at t n u) (putc_from t off a)} (regs_same n r q.1 st) λ a e e'. two_held _ _ {k = putc_from s off a} {l = putc_from t off a} (regs_same n u q.3 st) λ a₂ e₂ e₂'. two_unless _ _ _ refl λ perm.
       two_granule (granule_answer a off) {k = putc_at s a₂} {l = putc_at t a₂} λ g at.
       two_memory _ _ (λ i. cond (ltb g (l_tags i)) (stored_answer (reaching (l_bytes i) (capability_of (base_of a₂) (top_of a₂) (permissions_of a₂)))) (Err T.Bounds)) λ _ _.
       let h = granule_is a off g at in
@@ -292,15 +271,11 @@ module _ (m : Group) (K : Fixed) (s t : State) (b c : Ledger) (v : Inv K s b) (v
       let f₀ = sym (reg_slot t n r q.1) ∙ e' in
       m_ok (
         refl,
-        subst (λ (j : ℕ). Core m (with_capability s j a₂) (with_capability t j a₂) (stored b (b.registers (slot n r)) off (b.registers (slot n u))) (stored c (c.registers (slot n r)) off (c.registers (slot n u)))) (sym h.2)
-            (subst (λ (j : Option Entry). Core m (with_capability s ((base_of a + off) / 16) a₂) (with_capability t ((base_of a + off) / 16) a₂) (stored b j off (b.registers (slot n u))) (stored c (c.registers (slot n r)) off (c.registers (slot n u)))) (sym (v.regs (slot n r) a e₀).recorded)
-            (subst (λ (j : Option Entry). Core m (with_capability s ((base_of a + off) / 16) a₂) (with_capability t ((base_of a + off) / 16) a₂) (with_granule b ((base_of a + off) / 16) (b.registers (slot n u))) (stored c j off (c.registers (slot n u)))) (sym (v'.regs (slot n r) a f₀).recorded)
-            (core_cap m K s t b c v v' d d' o ((base_of a + off) / 16) a₂ _ _ (omega (arith, h.0, reg_top K s b v (slot n r) a e₀))))),
+        rw (h.2, (v.regs (slot n r) a e₀).recorded, (v'.regs (slot n r) a f₀).recorded)
+            (core_cap m K s t b c v v' d d' o ((base_of a + off) / 16) a₂ _ _ (omega (arith, h.0, reg_top K s b v (slot n r) a e₀))),
       )
   two_calls (Call.Getc n r off u) st gift own = two_unless _ _ _ refl λ num.
-      let x = and_parts (is_register n r) (is_register n u && is_operand off) num in
-      let q = register_is n r x.0 in
-      let w = register_is n u (and_parts (is_register n u) (is_operand off) x.1).0 in
+      let q = registers_are n r n u (is_operand off) num in
       two_held _ _ {k = getc_from s n off u} {l = getc_from t n off u} (regs_same n r q.1 st) λ a e e'. two_unless _ _ _ refl λ perm.
       two_granule (granule_answer a off) {k = getc_at s n u} {l = getc_at t n u} λ g at.
       let h = granule_is a off g at in
@@ -310,11 +285,9 @@ module _ (m : Group) (K : Fixed) (s t : State) (b c : Ledger) (v : Inv K s b) (v
       let f₀ = sym (reg_slot t n r q.1) ∙ e' in
       two_memory _ _ {k = getc_granule s n u} {l = getc_granule t n u} (λ i. cond (ltb g (l_tags i)) (Ok (alike i)) (Err T.Bounds)) λ y _.
       two_unless _ _ _ refl λ tag.
-      two_loaded s t n u (capability_of y.numbers.base y.numbers.top y.numbers.permissions) o.sweep o.painted λ a₂. (
+      two_loaded s t n u (capability_of y.numbers.base y.numbers.top y.numbers.permissions) (λ i. (o.same i).sweep) (λ i. (o.same i).painted) λ a₂. (
         refl,
-        subst (λ (j : Option Entry). Core m (with_register s n u (Some a₂)) (with_register t n u (Some a₂)) (noted_load b j off (slot n u)) (noted_load c (c.registers (slot n r)) off (slot n u))) (sym (v.regs (slot n r) a e₀).recorded)
-            (subst (λ (j : Option Entry). Core m (with_register s n u (Some a₂)) (with_register t n u (Some a₂)) (with_entry b (slot n u) (b.granules ((base_of a + off) / 16))) (noted_load c j off (slot n u))) (sym (v'.regs (slot n r) a f₀).recorded)
-            (core_reg m K s t b c v v' d d' o n u q.0 w.1 (Some a₂) _ _)),
+        rw ((v.regs (slot n r) a e₀).recorded, (v'.regs (slot n r) a f₀).recorded) (core_reg m K s t b c v v' d d' o n u q.0 q.3 (Some a₂) _ _),
       )
   two_calls (Call.Give n r n' u) st gift own = two_unless _ _ _ refl λ num.
       let x = and_parts (is_register n r) (is_register n' u) num in
@@ -324,9 +297,9 @@ module _ (m : Group) (K : Fixed) (s t : State) (b c : Ledger) (v : Inv K s b) (v
       (m_ok (refl, core_reg m K s t b c v v' d d' o n' u w.0 w.1 (Some a) _ _))
   two_calls (Call.Drop n r) st gift own = two_unless _ _ _ refl λ num.
       let q = register_is n r num in m_ok (refl, core_reg m K s t b c v v' d d' o n r q.0 q.1 None _ _)
-  two_calls Call.OpenSweep st gift own = two_open s.sweep t.sweep o.sweep
-  two_calls (Call.Step k) st gift own = two_unless _ _ _ refl λ _. two_step k s.sweep t.sweep o.sweep refl refl
-  two_calls Call.Shut st gift own = two_shut s.sweep t.sweep o.sweep
+  two_calls Call.OpenSweep st gift own = two_open s.sweep t.sweep (λ i. (o.same i).sweep)
+  two_calls (Call.Step k) st gift own = two_unless _ _ _ refl λ _. two_step k s.sweep t.sweep (λ i. (o.same i).sweep) refl refl
+  two_calls Call.Shut st gift own = two_shut s.sweep t.sweep (λ i. (o.same i).sweep)
 
   matched : (x : Call) {y z : Effect} → Match (Agrees x) y z → (outcome y ≡ outcome z) × Core m (state_after s y) (state_after t z) (note b x (outcome y)) (note c x (outcome z))
   matched x m_no = (refl, o)

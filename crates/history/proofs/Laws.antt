@@ -1,15 +1,15 @@
 -- What each change of the model leaves, place by place.
-use Rattle.std.proofs.Common.{◌≡◌, ℕ, zero, suc, ◌+◌, ◌-◌, ◌*◌, ◌/◌, ◌%◌, ◌<◌, ◌≤◌, Bool, true, false, cond, ◌&&◌, ◌||◌, eqb, ltb, leb, ◌≢◌, List, [], ◌∷◌, map, length, get_or, drop, set, replicate, is_ok, Some, None, Option, sym, refl, ap, ◌∙◌, inl, inr, arith}
+use Rattle.std.proofs.Common.{◌≡◌, ℕ, zero, suc, ◌+◌, ◌-◌, ◌*◌, ◌/◌, ◌%◌, ◌<◌, ◌≤◌, Bool, true, false, cond, ◌&&◌, ◌||◌, eqb, ltb, ◌≢◌, List, [], ◌∷◌, map, length, get_or, drop, set, replicate, is_ok, Some, None, Option, sym, refl, ap, ◌∙◌, inl, inr, arith, rules}
 use lib.Seq.{paste}
 use Rattle.std.proofs.lemmas.List.Edits.{length-paste}
-use Rattle.std.proofs.lemmas.List.{get_or_default, get_or-drop, get_or-map, get_or_past, get_or-replicate, get_or-set_other, get_or-set_same, length-map, length-set}
-use Rattle.std.proofs.lemmas.Bool.{and_from, cases_Bool, cases_eq, cases_lt, cond-false, cond-true, eq-eqb, le-leb, lt-ltb, ne_eqb, or_left, or_right}
+use Rattle.std.proofs.lemmas.List.{get_or_default, get_or-drop, get_or_past, get_or-replicate, get_or-set_other, get_or-set_same, length-map, length-set, places}
+use Rattle.std.proofs.lemmas.Bool.{cases_eq, cases_lt, cond-false, cond-true, lt-ltb, ne_eqb, or_right, false_from_ne_true, cases_Bool, cond_both}
 use Rattle.std.proofs.lemmas.Bool.Decides.{nat_tests}
 use Rattle.allocator.specs.Allocators.{Allocation, releasing}
 use Rattle.allocator.specs.declared.cell.Cell.{Cell}
 use Rattle.allocator.specs.declared.cell.Cell.TheVariants.{Free, First, Rest}
 use Rattle.allocator.specs.Maps.{is_first, rests_in_front, run_length, run_of}
-use Rattle.authority.specs.Capabilities.{Authority, base_of, top_of, permissions_of, capability_of, meet_authority}
+use Rattle.authority.specs.Capabilities.{Authority, base_of, top_of, capability_of, meet_authority}
 use Rattle.authority.specs.Images.{image_of, word_at}
 use Rattle.authority.specs.PermissionsMeet.{permissions_from}
 use Rattle.authority.specs.declared.capability.Capability.{Capability}
@@ -24,8 +24,8 @@ use Rattle.quarantine.specs.declared.run.Run.{Run}
 use Rattle.machine.specs.declared.registers.Registers.{Registers}
 use Rattle.history.specs.Ledgers.{slot}
 use Rattle.history.specs.Provenance.{LiesWithin}
-use Rattle.history.proofs.Base.{Among, within, within_true, none_at, no_yes, some_none}
-use Rattle.history.proofs.Places.{eqb_same, set_place, paste_place, fill_place, fill_length, within_is, within_below, within_above, run_length_of, run_place, rests_rest, rests_end, rests_least}
+use Rattle.history.proofs.Base.{Among, none_at, within, within_is, within_true}
+use Rattle.history.proofs.Places.{get_set, paste_place, fill_place, fill_length, run_length_of, run_place, rests_rest, rests_end, rests_least}
 use Rattle.history.proofs.Authorities.{meet_below, meet_inside, meet_self, made_numbers, over_authority}
 
 -- registers by one number
@@ -52,13 +52,13 @@ reg_slot s c r h = λ i. register_in s.registers (sym (slot_row c r h) i) (sym (
 
 row_length : (rs : Registers) (c : ℕ) → Shaped rs → c < 8 → length (get_or rs.compartments c empty_compartment).registers ≡ 8
 row_length rs c sh h = let l = sh.rows in
-    ap (λ (x : Compartment). length x.registers) (get_or_default rs.compartments c empty_compartment (record { registers = [] }) (omega arith)) ∙ sh.columns c h
+    rw (get_or_default rs.compartments c empty_compartment (record { registers = [] }) (omega arith)) (sh.columns c h)
 
 pub reg_put : (rs : Registers) (c r j : ℕ) (o : Option Capability) → Shaped rs → c < 8 → r < 8 → reg_in (with_register_in rs c r o) j ≡ cond (eqb j (slot c r)) o (reg_in rs j)
 reg_put rs c r j o sh hc hr = elim (cases_eq (j / 8) c) [
   | inl e ↦
       ap (λ (x : Compartment). get_or x.registers (j % 8) None) (ap (λ (k : ℕ). get_or (set cs c new) k empty_compartment) e ∙ get_or-set_same cs c new empty_compartment (omega (arith, sh.rows)))
-      ∙ (set_place row r (j % 8) o None (omega (arith, row_length rs c sh hc))
+      ∙ (get_set row r (j % 8) o None (omega (arith, row_length rs c sh hc))
       ∙ (λ i. cond (same e i) o (get_or (get_or cs (sym e i) empty_compartment).registers (j % 8) None)))
   | inr n ↦
       ap (λ (x : Compartment). get_or x.registers (j % 8) None) (get_or-set_other cs c (j / 8) new empty_compartment n)
@@ -75,16 +75,13 @@ reg_put rs c r j o sh hc hr = elim (cases_eq (j / 8) c) [
     new = record { registers = set row r o }
 
     same : j / 8 ≡ c → eqb (j % 8) r ≡ eqb j (slot c r)
-    same e = eqb_same (j % 8) r j (slot c r) (λ q. omega arith) (λ q. omega arith)
+    same e = grind (arith, nat_tests)
 
 pub shaped_put : (rs : Registers) (c r : ℕ) (o : Option Capability) → Shaped rs → c < 8 → r < 8 → Shaped (with_register_in rs c r o)
 shaped_put rs c r o sh hc hr = record {
   rows = length-set rs.compartments c new ∙ sh.rows;
-  columns = λ k h. elim (cases_eq k c) [
-    | inl e ↦ ap (λ (x : Compartment). length x.registers) (ap (λ (m : ℕ). get_or (set rs.compartments c new) m (record { registers = [] })) e ∙ get_or-set_same rs.compartments c new (record { registers = [] }) (omega (arith, sh.rows)))
-        ∙ (length-set row r o ∙ row_length rs c sh hc)
-    | inr n ↦ ap (λ (x : Compartment). length x.registers) (get_or-set_other rs.compartments c k new (record { registers = [] }) n) ∙ sh.columns k h
-  ];
+  columns = λ k h. rw (get_set rs.compartments c k new (record { registers = [] }) (omega (arith, sh.rows)))
+      (cond_both (eqb k c) _ _ (λ (x : Compartment). length x.registers ≡ 8) (λ _. length-set row r o ∙ row_length rs c sh hc) (λ _. sh.columns k h));
 }
   where
     row : List (Option Capability)
@@ -94,15 +91,23 @@ shaped_put rs c r o sh hc hr = record {
     new = record { registers = set row r o }
 
 map_place : {X Y : Type 0} (f : X → Y) (xs : List X) (i : ℕ) (d : X) (e : Y) → f d ≡ e → get_or (map f xs) i e ≡ f (get_or xs i d)
-map_place f xs i d e h = elim (cases_lt i (length xs)) [
-  | inl k ↦ get_or-map f xs i d e k
-  | inr k ↦ get_or_past (map f xs) i e (let l = length-map xs f in omega arith) ∙ (sym h ∙ ap f (sym (get_or_past xs i d k)))
-]
+map_place f [] i d e h = sym h
+map_place f (x ∷ xs) zero d e h = refl
+map_place f (x ∷ xs) (suc i) d e h = map_place f xs i d e h
 
 pub reg_emptied : (qs : List Run) (rs : Registers) (j : ℕ) → reg_in (emptied_registers qs rs) j ≡ survivor qs (reg_in rs j)
 reg_emptied qs rs j =
     ap (λ (x : Compartment). get_or x.registers (j % 8) None) (map_place (emptied_compartment qs) rs.compartments (j / 8) empty_compartment empty_compartment refl)
     ∙ map_place (survivor qs) (get_or rs.compartments (j / 8) empty_compartment).registers (j % 8) None None refl
+
+-- what stays in a register when runs are painted
+pub survived : (rs : List Run) (o : Option Capability) (a : Capability) → survivor rs o ≡ Some a → (o ≡ Some a) × (in_runs rs (base_of a / 16) ≡ false)
+survived rs None a e = cc
+survived rs (Some c) a e = go (in_runs rs (base_of c / 16)) refl e
+  where
+    go : (t : Bool) → in_runs rs (base_of c / 16) ≡ t → cond t None (Some c) ≡ Some a → (Some c ≡ Some a) × (in_runs rs (base_of a / 16) ≡ false)
+    go true q e = cc
+    go false q e = let z : c ≡ a = cc in (e, cc)
 
 pub shaped_emptied : (qs : List Run) (rs : Registers) → Shaped rs → Shaped (emptied_registers qs rs)
 shaped_emptied qs rs sh = record {
@@ -122,10 +127,7 @@ shaped_fresh = record {
   columns = λ c h. ap (λ (x : Compartment). length x.registers) (get_or-replicate 8 c empty_compartment (record { registers = [] }) h);
 }
 
--- one place, and an image
-
-pub get_set : {X : Type 0} (l : List X) (i j : ℕ) (v d : X) → i < length l → get_or (set l i v) j d ≡ cond (eqb j i) v (get_or l j d)
-get_set l i j v d h = set_place l i j v d h
+-- an image
 
 pub length_image : (bs : List ℕ) (g : ℕ) (c : Capability) → 16 * g + 16 ≤ length bs → length (with_image bs g (Some c)) ≡ length bs
 length_image bs g c h = length-paste bs (16 * g) (image_of c) 16 h (omega arith)
@@ -138,32 +140,25 @@ get_image bs g c i h = paste_place bs (image_of c) (16 * g) 16 i 0 h refl
 abbrev pub capability_at : List ℕ → ℕ → Option Capability
 capability_at bs g = capability_of (word_at bs (16 * g)) (word_at bs (16 * g + 4)) (get_or bs (16 * g + 8) 0)
 
--- three numbers that make a capability are its own
-pub made_base : (x y z : ℕ) (c : Capability) → capability_of x y z ≡ Some c → (base_of c ≡ x) × (top_of c ≡ y) × (permissions_of c ≡ z)
-made_base x y z c e = made_numbers x y z c e
-
 pub base_at : (bs : List ℕ) (g : ℕ) (c : Capability) → capability_at bs g ≡ Some c → word_at bs (16 * g) ≡ base_of c
 base_at bs g c e = sym (made_numbers (word_at bs (16 * g)) (word_at bs (16 * g + 4)) (get_or bs (16 * g + 8) 0) c e).0
+
+pub word_same : (bs cs : List ℕ) (a : ℕ) → ((i : ℕ) → a ≤ i → i < a + 4 → get_or bs i 0 ≡ get_or cs i 0) → word_at bs a ≡ word_at cs a
+word_same bs cs a h = cc (h a (omega arith) (omega arith), h (a + 1) (omega arith) (omega arith), h (a + 2) (omega arith) (omega arith), h (a + 3) (omega arith) (omega arith))
 
 pub read_same : (bs cs : List ℕ) (g : ℕ) → ((i : ℕ) → 16 * g ≤ i → i < 16 * g + 16 → get_or bs i 0 ≡ get_or cs i 0)
     → (capability_at bs g ≡ capability_at cs g) × (word_at bs (16 * g) ≡ word_at cs (16 * g))
 read_same bs cs g h =
-    let p = fours (16 * g) (omega arith) (omega arith) in
-    let q = fours (16 * g + 4) (omega arith) (omega arith) in
+    let p = word_same bs cs (16 * g) (λ i lo hi. h i (omega arith) (omega arith)) in
+    let q = word_same bs cs (16 * g + 4) (λ i lo hi. h i (omega arith) (omega arith)) in
     let r = h (16 * g + 8) (omega arith) (omega arith) in
     ((λ i. capability_of (p i) (q i) (r i)), p)
-  where
-    fours : (a : ℕ) → 16 * g ≤ a → a + 4 ≤ 16 * g + 16 → word_at bs a ≡ word_at cs a
-    fours a lo hi = cc (h a (omega arith) (omega arith), h (a + 1) (omega arith) (omega arith), h (a + 2) (omega arith) (omega arith), h (a + 3) (omega arith) (omega arith))
 
 pub read_image : (bs : List ℕ) (g : ℕ) (c : Capability) → 16 * g + 16 ≤ length bs → capability_at (with_image bs g (Some c)) g ≡ Some c
 read_image bs g c h = (λ i. capability_of (p i) (q i) (r i)) ∙ image_reads_back c
   where
     at : (j i : ℕ) → i ≡ 16 * g + j → j < 16 → get_or (with_image bs g (Some c)) i 0 ≡ get_or (image_of c) j 0
-    at j i e lt =
-        get_image bs g c i h
-        ∙ (cond-true (within (16 * g) 16 i) _ _ (within_is (16 * g) 16 i (omega arith) (omega arith))
-        ∙ (let d : i - 16 * g ≡ j = omega arith in ap (λ (n : ℕ). get_or (image_of c) n 0) d))
+    at j i e lt = let d : i - 16 * g ≡ j = omega arith in grind (arith, nat_tests, get_image)
 
     p : word_at (with_image bs g (Some c)) (16 * g) ≡ word_at (image_of c) 0
     p = cc (at 0 (16 * g) (omega arith) (omega arith), at 1 (16 * g + 1) (omega arith) (omega arith), at 2 (16 * g + 2) (omega arith) (omega arith), at 3 (16 * g + 3) (omega arith) (omega arith))
@@ -178,10 +173,7 @@ pub read_other : (bs : List ℕ) (g : ℕ) (c : Capability) (g' : ℕ) → 16 * 
 read_other bs g c g' h ne = (read_same (with_image bs g (Some c)) bs g' (λ i lo hi. get_image bs g c i h ∙ cond-false (within (16 * g) 16 i) _ _ (apart i lo hi))).0
   where
     apart : (i : ℕ) → 16 * g' ≤ i → i < 16 * g' + 16 → within (16 * g) 16 i ≡ false
-    apart i lo hi = elim (cases_lt i (16 * g)) [
-      | inl k ↦ within_below (16 * g) 16 i k
-      | inr k ↦ within_above (16 * g) 16 i (elim (cases_lt i (16 * g + 16)) [ inl m ↦ absurd (ne (omega arith)) | inr m ↦ m ])
-    ]
+    apart i lo hi = grind (arith, nat_tests)
 
 pub read_set : (bs : List ℕ) (a v g : ℕ) → a < length bs → g ≢ a / 16 → capability_at (set bs a v) g ≡ capability_at bs g
 read_set bs a v g h ne = (read_same (set bs a v) bs g (λ i lo hi. get_or-set_other bs a i v 0 (λ e. ne (omega arith)))).0
@@ -198,7 +190,7 @@ pub within_derived : (a w d : Capability) (lo len p : ℕ) → LiesWithin a w �
 within_derived a w d lo len p h e = go (permissions_from p) e
   where
     go : (o : Option Permissions) → derived_with a lo len o ≡ Some d → LiesWithin d w
-    go None e = some_none (sym e)
+    go None e = cc
     go (Some q) e =
         let m = over_authority (meet_authority a.authority (wanted a lo len q)) d e in
         ap (λ (x : Authority). meet_authority x w.authority) m ∙ (meet_below a.authority (wanted a lo len q) w.authority h ∙ sym m)
@@ -212,12 +204,7 @@ pub length_taken : (cs : List Cell) (b n : ℕ) → 0 < n → b + n ≤ length c
 length_taken cs b n z h = let e = run_length_of n in length-paste cs b (run_of n) n h (omega arith)
 
 pub get_taken : (cs : List Cell) (b n g : ℕ) → 0 < n → b + n ≤ length cs → get_or (paste cs b (run_of n) n) g Free ≡ cond (within b n g) (cond (eqb g b) First Rest) (get_or cs g Free)
-get_taken cs b n g z h = paste_place cs (run_of n) b n g Free h (run_length_of n) ∙ (elim (cases_Bool (within b n g)) [
-  | inl y ↦ let w = within_true b n g y in cond-true (within b n g) _ _ y
-      ∙ (run_place n (g - b) Free (omega arith)
-      ∙ (ap (λ (t : Bool). cond t First Rest) (eqb_same (g - b) 0 g b (λ q. omega arith) (λ q. omega arith)) ∙ sym (cond-true (within b n g) _ _ y)))
-  | inr y ↦ cond-false (within b n g) _ _ y ∙ sym (cond-false (within b n g) _ _ y)
-])
+get_taken cs b n g z h = grind (arith, nat_tests, paste_place, run_length_of, run_place)
 
 -- what a run's length tells
 
@@ -226,9 +213,8 @@ unfolding run_length
 run_first cs b h = go (get_or cs b Free) h
   where
     go : (x : Cell) → 0 < cond (is_first x) (suc (rests_in_front (drop (b + 1) cs))) 0 → x ≡ First
-    go Free h = absurd (let f : ⊥ = omega arith in f)
     go First h = refl
-    go Rest h = absurd (let f : ⊥ = omega arith in f)
+    go _ h = absurd (omega arith)
 
 -- a run's length where it has a first
 run_start : (cs : List Cell) (b : ℕ) → get_or cs b Free ≡ First → run_length cs b ≡ suc (rests_in_front (drop (b + 1) cs))
@@ -262,48 +248,22 @@ run_is cs b n z f r e =
 
 pub length_swept : (rs : List Run) (bs : List ℕ) (p k : ℕ) (ts : List Bool) → length (swept_tags rs bs p k ts) ≡ length ts
 length_swept rs bs p zero ts = refl
-length_swept rs bs p (suc k) ts = one (get_or ts' (p + k) false && in_runs rs (word_at bs (16 * (p + k)) / 16)) ∙ length_swept rs bs p k ts
-  where
-    ts' : List Bool
-    ts' = swept_tags rs bs p k ts
-
-    one : (t : Bool) → length (cond t (set ts' (p + k) false) ts') ≡ length ts'
-    one true = length-set ts' (p + k) false
-    one false = refl
+length_swept rs bs p (suc k) ts =
+    let us = swept_tags rs bs p k ts in
+    cond_both (get_or us (p + k) false && in_runs rs (word_at bs (16 * (p + k)) / 16)) _ _ (λ x. length x ≡ length us) (λ _. length-set us (p + k) false) (λ _. refl) ∙ length_swept rs bs p k ts
 
 -- one granule passed
 swept_one : (rs : List Run) (bs : List ℕ) (q g : ℕ) (ts : List Bool) → get_or (swept_tag rs bs q ts) g false ≡ cond (eqb g q && in_runs rs (word_at bs (16 * g) / 16)) false (get_or ts g false)
-swept_one rs bs q g ts = elim (cases_eq g q) [
-  | inl e ↦ ap (λ (k : ℕ). get_or (swept_tag rs bs q ts) k false) e ∙ (here (get_or ts q false) (in_runs rs (word_at bs (16 * q) / 16)) refl
-      ∙ (ap (λ (k : ℕ). cond (in_runs rs (word_at bs (16 * k) / 16)) false (get_or ts k false)) (sym e) ∙ sym (ap (λ (t : Bool). cond (t && in_runs rs (word_at bs (16 * g) / 16)) false (get_or ts g false)) (eq-eqb g q e))))
-  | inr n ↦ other n (get_or ts q false && in_runs rs (word_at bs (16 * q) / 16)) ∙ sym (ap (λ (t : Bool). cond (t && in_runs rs (word_at bs (16 * g) / 16)) false (get_or ts g false)) (ne_eqb g q n))
-]
+swept_one rs bs q g ts = grind (arith, nat_tests, cases_Bool, cleared, get_or-set_other {A = Bool})
   where
-    cleared : get_or (set ts q false) q false ≡ false
-    cleared = elim (cases_lt q (length ts)) [
-      | inl h ↦ get_or-set_same ts q false false h
-      | inr h ↦ get_or_past (set ts q false) q false (let l = length-set ts q false in omega arith)
-    ]
-
-    here : (t x : Bool) → get_or ts q false ≡ t → get_or (cond (t && x) (set ts q false) ts) q false ≡ cond x false t
-    here true true e = cleared
-    here true false e = e
-    here false true e = e
-    here false false e = e
-
-    other : g ≢ q → (t : Bool) → get_or (cond t (set ts q false) ts) g false ≡ get_or ts g false
-    other n true = get_or-set_other ts q g false false n
-    other n false = refl
+    cleared : (ts : List Bool) (q : ℕ) → get_or (set ts q false) q false ≡ false
+    cleared ts q = search (rules, places)
 
 swept_more : (p k g : ℕ) (x y : Bool) → cond (eqb g (p + k) && x) false (cond (within p k g && x) false y) ≡ cond (within p (suc k) g && x) false y
-swept_more p k g true y = grind (arith, nat_tests)
-swept_more p k g false y = grind (arith, nat_tests)
+swept_more p k g x y = grind (arith, nat_tests)
 
 pub get_swept : (rs : List Run) (bs : List ℕ) (p k g : ℕ) (ts : List Bool) → get_or (swept_tags rs bs p k ts) g false ≡ cond (within p k g && in_runs rs (word_at bs (16 * g) / 16)) false (get_or ts g false)
-get_swept rs bs p zero g ts = sym (cond-false (within p zero g && in_runs rs (word_at bs (16 * g) / 16)) _ _ (none p g (in_runs rs (word_at bs (16 * g) / 16))))
-  where
-    none : (p g : ℕ) (x : Bool) → (within p zero g && x) ≡ false
-    none p g x = grind (arith, nat_tests)
+get_swept rs bs p zero g ts = grind (arith, nat_tests)
 get_swept rs bs p (suc k) g ts =
     swept_one rs bs (p + k) g (swept_tags rs bs p k ts)
     ∙ (ap (λ (x : Bool). cond (eqb g (p + k) && in_runs rs (word_at bs (16 * g) / 16)) false x) (get_swept rs bs p k g ts)
@@ -316,13 +276,12 @@ InsideAll all rs = (r : Run) → Among r rs → (0 < r.length) × (r.start + r.l
 
 -- a run inside is wiped
 wipes : (b n all : ℕ) → 0 < n → b + n ≤ all → is_ok (wipe_answer b n all) ≡ true
-wipes b n all z h = ap is_ok (cond-true (ltb b all && leb (b + n) all) _ _ (and_from (ltb b all) (leb (b + n) all) (lt-ltb b all (omega arith)) (le-leb (b + n) all h)))
+wipes b n all z h = grind (arith, nat_tests)
 
 -- one value over two stretches
 two_ways : {X : Type 0} (a b : Bool) (v x : X) → cond b v (cond a v x) ≡ cond (a || b) v x
 two_ways true true v x = refl
-two_ways true false v x = refl
-two_ways false b v x = refl
+two_ways _ b v x = refl
 
 pub length_wiped_bytes : (all : ℕ) (rs : List Run) (bs : List ℕ) → length bs ≡ 16 * all → InsideAll all rs → length (wiped_bytes all rs bs) ≡ 16 * all
 length_wiped_bytes all [] bs l h = l
@@ -344,13 +303,7 @@ get_wiped_bytes all (r ∷ rs) bs i l h =
     ∙ two_ways (in_run r (i / 16)) (in_runs rs (i / 16)) 0 (get_or bs i 0)))
   where
     by_granule : (b n i : ℕ) → within (16 * b) (16 * n) i ≡ within b n (i / 16)
-    by_granule b n i = elim (cases_lt i (16 * b)) [
-      | inl k ↦ within_below (16 * b) (16 * n) i k ∙ sym (within_below b n (i / 16) (omega arith))
-      | inr k ↦ elim (cases_lt i (16 * b + 16 * n)) [
-        | inl m ↦ within_is (16 * b) (16 * n) i k m ∙ sym (within_is b n (i / 16) (omega arith) (omega arith))
-        | inr m ↦ within_above (16 * b) (16 * n) i m ∙ sym (within_above b n (i / 16) (omega arith))
-      ]
-    ]
+    by_granule b n i = grind (arith, nat_tests)
 
 pub length_wiped_tags : (rs : List Run) (ts : List Bool) → InsideAll (length ts) rs → length (wiped_tags rs ts) ≡ length ts
 length_wiped_tags [] ts h = refl
@@ -384,10 +337,10 @@ Disjoint [] = Unit {0}
 Disjoint (r ∷ rs) = ((g : ℕ) → in_run r g ≡ true → in_runs rs g ≡ false) × Disjoint rs
 
 -- a granule in one of the runs
-in_among : (rs : List Run) (r : Run) (g : ℕ) → Among r rs → in_run r g ≡ true → in_runs rs g ≡ true
-in_among [] r g a h = absurd a
-in_among (x ∷ rs) r g (inl e) h = or_left (in_run x g) (in_runs rs g) (ap (λ (y : Run). in_run y g) (sym e) ∙ h)
-in_among (x ∷ rs) r g (inr a) h = or_right (in_run x g) (in_runs rs g) (in_among rs r g a h)
+pub in_among : (rs : List Run) (r : Run) (g : ℕ) → Among r rs → r.start ≤ g → g < r.start + r.length → in_runs rs g ≡ true
+in_among [] r g a lo hi = absurd a
+in_among (x ∷ rs) r g (inl e) lo hi = let a : r.start ≡ x.start = cc in let l : r.length ≡ x.length = cc in grind (arith, nat_tests)
+in_among (x ∷ rs) r g (inr a) lo hi = or_right _ _ (in_among rs r g a lo hi)
 
 -- the map with one run freed
 abbrev freed : Run → List Cell → List Cell
@@ -395,20 +348,13 @@ freed r cs = paste cs r.start (replicate r.length Free) r.length
 
 -- a run of the map lies inside it
 whole_inside : (cs : List Cell) (r : Run) → WholeRun cs r → r.start + r.length ≤ length cs
-whole_inside cs r w = elim (cases_lt (r.start + r.length - 1) (length cs)) [
-  | inl h ↦ (let p = w.some in omega arith)
-  | inr h ↦ (let p = w.some in absurd (never (eqb (r.start + r.length - 1) r.start) (sym (w.cells (r.start + r.length - 1) (omega arith) (omega arith)) ∙ get_or_past cs (r.start + r.length - 1) Free h)))
-]
-  where
-    never : (t : Bool) → cond t First Rest ≡ Free → ⊥
-    never true e = let z : ◌≡◌ {A = ℕ} 0 1 = cc in omega arith
-    never false e = let z : ◌≡◌ {A = ℕ} 0 1 = cc in omega arith
+whole_inside cs r w = let p = w.some in grind (arith, nat_tests, w.cells (r.start + r.length - 1), get_or_past {X = Cell})
 
 -- its length in the map is its own
 whole_length : (cs : List Cell) (r : Run) → WholeRun cs r → run_length cs r.start ≡ r.length
 whole_length cs r w = let p = w.some in run_is cs r.start r.length p
-    (w.cells r.start (omega arith) (omega arith) ∙ cond-true (eqb r.start r.start) First Rest (eq-eqb r.start r.start refl))
-    (λ g lo hi. w.cells g (omega arith) hi ∙ cond-false (eqb g r.start) First Rest (ne_eqb g r.start (λ e. omega arith)))
+    (grind (arith, nat_tests, w.cells))
+    (λ g lo hi. grind (arith, nat_tests, w.cells))
     w.end
 
 -- releasing one run frees its granules
@@ -420,23 +366,22 @@ released_one cs r w = let p = w.some in let l = whole_length cs r w in
 freed_place : (cs : List Cell) (r : Run) (g : ℕ) → WholeRun cs r → get_or (freed r cs) g Free ≡ cond (in_run r g) Free (get_or cs g Free)
 freed_place cs r g w = fill_place cs r.start r.length g Free Free (whole_inside cs r w)
 
+-- a rest that stands was not freed
+pub not_freed : (t : Bool) {x : Cell} → cond t Free x ≡ Rest → x ≡ Rest
+not_freed true e = cc
+not_freed false e = e
+
 -- the other runs stay
 still_whole : (cs : List Cell) (r x : Run) → WholeRun cs r → WholeRun cs x → ((g : ℕ) → in_run x g ≡ true → in_run r g ≡ false) → WholeRun (freed r cs) x
 still_whole cs r x w v apart = record {
   some = v.some;
   cells = λ g lo hi. freed_place cs r g w ∙ (cond-false (in_run r g) _ _ (apart g (within_is x.start x.length g lo hi)) ∙ v.cells g lo hi);
-  end = λ e. go (in_run r (x.start + x.length)) (sym (freed_place cs r (x.start + x.length) w) ∙ e);
+  end = λ e. v.end (not_freed (in_run r (x.start + x.length)) (sym (freed_place cs r (x.start + x.length) w) ∙ e));
 }
-  where
-    go : (t : Bool) → cond t Free (get_or cs (x.start + x.length) Free) ≡ Rest → ⊥
-    go true q = let z : ◌≡◌ {A = ℕ} 0 1 = cc in omega arith
-    go false q = v.end q
 
 others_whole : (cs : List Cell) (r : Run) (rs : List Run) → ((x : Run) → Among x (r ∷ rs) → WholeRun cs x) → Disjoint (r ∷ rs) → (x : Run) → Among x rs → WholeRun (freed r cs) x
-others_whole cs r rs h d x a = still_whole cs r x (h r (inl refl)) (h x (inr a)) (λ g y. elim (cases_Bool (in_run r g)) [
-  | inl z ↦ no_yes (sym (in_among rs x g a y) ∙ d.0 g z)
-  | inr z ↦ z
-])
+others_whole cs r rs h d x a = still_whole cs r x (h r (inl refl)) (h x (inr a)) λ g y. false_from_ne_true _ λ z.
+    let w = within_true x.start x.length g y in cc (in_among rs x g a w.0 w.1, d.0 g z)
 
 pub length_released : (rs : List Run) (cs : List Cell) → ((r : Run) → Among r rs → WholeRun cs r) → Disjoint rs → length (released_cells rs cs) ≡ length cs
 length_released [] cs h d = refl

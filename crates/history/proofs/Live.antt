@@ -1,8 +1,9 @@
 -- Runs that are live, and whose they are.
-use Rattle.std.proofs.Common.{◌≡◌, ℕ, zero, suc, ◌+◌, ◌-◌, ◌*◌, ◌/◌, ◌<◌, ◌≤◌, Bool, true, false, cond, ◌&&◌, ◌||◌, eqb, ltb, leb, List, [], ◌∷◌, ◌++◌, length, get_or, Some, Option, sym, refl, ap, ◌∙◌, subst, inl, inr, arith}
+use Rattle.std.proofs.Common.{◌≡◌, ℕ, ◌+◌, ◌*◌, ◌/◌, ◌<◌, ◌≤◌, true, false, cond, ◌&&◌, eqb, ltb, leb, List, [], ◌∷◌, ◌++◌, get_or, Some, Option, sym, refl, ap, ◌∙◌, inl, inr, arith}
+use Rattle.std.proofs.lemmas.Option.{same_Some}
 use lib.Seq.{paste}
 use Rattle.std.proofs.lemmas.Bool.Decides.{nat_tests}
-use Rattle.std.proofs.lemmas.Bool.{or_cases, or_parts, or_from, cases_Bool, cases_lt, cond-true, cond-false, ne_eqb, eq-eqb, eqb-true}
+use Rattle.std.proofs.lemmas.Bool.{or_cases, or_parts, cases_lt, cond-true, cond-false, ne_eqb, eq-eqb, or_left, or_right, false_from_ne_true}
 use Rattle.allocator.specs.declared.cell.Cell.{Cell}
 use Rattle.allocator.specs.declared.cell.Cell.TheVariants.{Free, First, Rest}
 use Rattle.allocator.specs.Maps.{FreeAt, run_length, run_of}
@@ -12,88 +13,57 @@ use Rattle.authority.specs.declared.capability.Capability.{Capability}
 use Rattle.machine.specs.Runs.{begins_at, in_run, in_runs}
 use Rattle.quarantine.specs.declared.run.Run.{Run}
 use Rattle.history.specs.Ledgers.{Entry, Grant, put_at}
-use Rattle.history.proofs.Base.{Among, no_yes, some_same, within, within_true}
-use Rattle.history.proofs.Laws.{Disjoint, get_taken, made_base, run_end, run_first, within_bounds, within_self}
+use Rattle.history.proofs.Authorities.{made_numbers}
+use Rattle.history.proofs.Base.{Among, within, within_is, within_true}
+use Rattle.history.proofs.Laws.{Disjoint, get_taken, in_among, run_end, run_first, within_bounds, within_self}
 use Rattle.history.proofs.Invariant.{AllLive, Live, Once, Sound, part}
+use Rattle.history.proofs.Rooms.{room_of}
 
 -- cells differ
-
-pub first_free : {X : Type 0} → First ≡ Free → X
-first_free e = let z : ◌≡◌ {A = ℕ} 0 1 = cc in absurd (let f : ⊥ = omega arith in f)
-
-pub rest_free : {X : Type 0} → Rest ≡ Free → X
-rest_free e = let z : ◌≡◌ {A = ℕ} 0 1 = cc in absurd (let f : ⊥ = omega arith in f)
-
-pub first_rest : {X : Type 0} → First ≡ Rest → X
-first_rest e = let z : ◌≡◌ {A = ℕ} 0 1 = cc in absurd (let f : ⊥ = omega arith in f)
 
 -- the parts of a run
 
 pub part_taken : (w : Run) (g : ℕ) → part w g ≡ Free → ⊥
-part_taken w g e = go (eqb g w.start) e
-  where
-    go : (b : Bool) → cond b First Rest ≡ Free → ⊥
-    go true e = first_free e
-    go false e = rest_free e
+part_taken w g e = grind (arith, nat_tests)
 
 pub part_first : (w : Run) (g : ℕ) → part w g ≡ First → g ≡ w.start
-part_first w g e = elim (cases_Bool (eqb g w.start)) [ inl y ↦ eqb-true g w.start y | inr n ↦ first_rest (sym (sym (cond-false (eqb g w.start) First Rest n) ∙ e)) ]
+part_first w g e = grind (arith, nat_tests)
 
 pub part_rest : (w : Run) (g : ℕ) → w.start < g → part w g ≡ Rest
-part_rest w g h = cond-false (eqb g w.start) First Rest (ne_eqb g w.start (omega arith))
+part_rest w g h = grind (arith, nat_tests)
 
 -- a granule in one of several runs
 
-pub in_run_true : (r : Run) (g : ℕ) → in_run r g ≡ true → (r.start ≤ g) × (g < r.start + r.length)
-in_run_true r g e = grind (arith, nat_tests)
-
-pub in_run_from : (r : Run) (g : ℕ) → r.start ≤ g → g < r.start + r.length → in_run r g ≡ true
-in_run_from r g lo hi = grind (arith, nat_tests)
-
 pub among_in : (rs : List Run) (g : ℕ) → in_runs rs g ≡ true → (r : Run) × Among r rs × (r.start ≤ g) × (g < r.start + r.length)
-among_in [] g e = no_yes (sym e)
+among_in [] g e = cc
 among_in (r ∷ rs) g e = elim (or_cases (in_run r g) (in_runs rs g) e) [
-  | inl h ↦ let q = in_run_true r g h in (r, inl refl, q.0, q.1)
+  | inl h ↦ let q = within_true r.start r.length g h in (r, inl refl, q.0, q.1)
   | inr h ↦ let q = among_in rs g h in (q.0, inr q.1, q.2, q.3)
 ]
-
-pub in_among : (rs : List Run) (r : Run) (g : ℕ) → Among r rs → r.start ≤ g → g < r.start + r.length → in_runs rs g ≡ true
-in_among [] r g h lo hi = absurd h
-in_among (x ∷ rs) r g (inl e) lo hi = ap (λ (t : Bool). t || in_runs rs g) (subst (λ (y : Run). in_run y g ≡ true) e (in_run_from r g lo hi))
-in_among (x ∷ rs) r g (inr h) lo hi = go (in_run x g) (in_runs rs g) (in_among rs r g h lo hi)
-  where
-    go : (t u : Bool) → u ≡ true → (t || u) ≡ true
-    go true u e = refl
-    go false u e = e
 
 -- a run that begins among several
 
 pub begins_among : (rs : List Run) (r : Run) → Among r rs → begins_at rs r.start ≡ true
 begins_among [] r h = absurd h
-begins_among (x ∷ rs) r (inl e) = ap (λ (t : Bool). t || begins_at rs r.start) (eq-eqb x.start r.start (ap (λ (y : Run). y.start) (sym e)))
-begins_among (x ∷ rs) r (inr h) = go (eqb x.start r.start) (begins_at rs r.start) (begins_among rs r h)
-  where
-    go : (t u : Bool) → u ≡ true → (t || u) ≡ true
-    go true u e = refl
-    go false u e = e
+begins_among (x ∷ rs) r (inl e) = or_left _ _ (eq-eqb x.start r.start cc)
+begins_among (x ∷ rs) r (inr h) = or_right _ _ (begins_among rs r h)
 
 pub begins_append : (xs ys : List Run) (b : ℕ) → begins_at xs b ≡ false → begins_at ys b ≡ false → begins_at (xs ++ ys) b ≡ false
 begins_append [] ys b p q = q
-begins_append (x ∷ xs) ys b p q = let h = or_parts (eqb x.start b) (begins_at xs b) p in or_from (eqb x.start b) (begins_at (xs ++ ys) b) h.0 (begins_append xs ys b h.1 q)
+begins_append (x ∷ xs) ys b p q = grind (arith, begins_append xs ys b)
 
 pub begins_left : (xs ys : List Run) (b : ℕ) → begins_at (xs ++ ys) b ≡ false → begins_at xs b ≡ false
 begins_left [] ys b p = refl
-begins_left (x ∷ xs) ys b p = let h = or_parts (eqb x.start b) (begins_at (xs ++ ys) b) p in or_from (eqb x.start b) (begins_at xs b) h.0 (begins_left xs ys b h.1)
+begins_left (x ∷ xs) ys b p = grind (arith, begins_left xs ys b)
 
 -- a run that begins at b has granule b
 pub begins_in : (rs : List Run) (b : ℕ) → ((r : Run) → Among r rs → 0 < r.length) → in_runs rs b ≡ false → begins_at rs b ≡ false
 begins_in [] b h p = refl
 begins_in (x ∷ rs) b h p =
+    let pos = h x (inl refl) in
     let q = or_parts (in_run x b) (in_runs rs b) p in
-    or_from (eqb x.start b) (begins_at rs b) (elim (cases_Bool (eqb x.start b)) [
-      | inl y ↦ let e : x.start ≡ b = eqb-true x.start b y in let pos = h x (inl refl) in no_yes (sym (in_run_from x b (omega arith) (omega arith)) ∙ q.0)
-      | inr n ↦ n
-    ]) (begins_in rs b (λ r a. h r (inr a)) q.1)
+    let i = begins_in rs b (λ r a. h r (inr a)) q.1 in
+    grind (arith, nat_tests)
 
 -- no two begin at one granule
 
@@ -105,34 +75,12 @@ pub once_right : (xs ys : List Run) → Once (xs ++ ys) → Once ys
 once_right [] ys h = h
 once_right (x ∷ xs) ys h = once_right xs ys h.1
 
-pub once_nil : (xs : List Run) → Once xs → Once (xs ++ [])
-once_nil [] h = tt
-once_nil (x ∷ xs) h = (begins_append xs [] x.start h.0 refl, once_nil xs h.1)
-
 -- one more, whose begin is new
 pub once_more : (xs : List Run) (r : Run) → Once xs → begins_at xs r.start ≡ false → Once (xs ++ (r ∷ []))
 once_more [] r h n = (refl, tt)
 once_more (x ∷ xs) r h n =
     let q = or_parts (eqb x.start r.start) (begins_at xs r.start) n in
-    (begins_append xs (r ∷ []) x.start h.0 (or_from (eqb r.start x.start) false (turn q.0) refl), once_more xs r h.1 q.1)
-  where
-    turn : eqb x.start r.start ≡ false → eqb r.start x.start ≡ false
-    turn e = grind (arith, nat_tests)
-
-pub once_more_of : (xs ys : List Run) (r : Run) → Once (xs ++ ys) → begins_at (xs ++ ys) r.start ≡ false → Once (xs ++ (ys ++ (r ∷ [])))
-once_more_of [] ys r h n = once_more ys r h n
-once_more_of (x ∷ xs) ys r h n =
-    let q = or_parts (eqb x.start r.start) (begins_at (xs ++ ys) r.start) n in (
-      subst (λ (t : List Run). begins_at t x.start ≡ false) (regroup xs ys r) (begins_append (xs ++ ys) (r ∷ []) x.start h.0 (or_from (eqb r.start x.start) false (turn q.0) refl)),
-      once_more_of xs ys r h.1 q.1,
-    )
-  where
-    turn : eqb x.start r.start ≡ false → eqb r.start x.start ≡ false
-    turn e = grind (arith, nat_tests)
-
-    regroup : (us vs : List Run) (c : Run) → (us ++ vs) ++ (c ∷ []) ≡ us ++ (vs ++ (c ∷ []))
-    regroup [] vs c = refl
-    regroup (u ∷ us) vs c = ap (λ (t : List Run). u ∷ t) (regroup us vs c)
+    (begins_append xs (r ∷ []) x.start h.0 (grind (arith, nat_tests)), once_more xs r h.1 q.1)
 
 module _ {cs : List Cell} {latest : ℕ → Option ℕ} {grants : ℕ → Option Grant} where
   -- none of its granules is free
@@ -141,18 +89,18 @@ module _ {cs : List Cell} {latest : ℕ → Option ℕ} {grants : ℕ → Option
 
   -- the bounds of its grant
   pub live_bounds : {k : ℕ} {w : Run} (l : Live cs latest grants k w) → (base_of l.whole ≡ 16 * w.start) × (top_of l.whole ≡ 16 * w.start + 16 * w.length)
-  live_bounds {w = w} l = let m = made_base _ _ _ l.whole l.made in (m.0, m.1)
+  live_bounds {w = w} l = let m = made_numbers _ _ _ l.whole l.made in (m.0, m.1)
 
   -- two that share a granule are of one grant, and so are one
   pub same_grant : {k k' : ℕ} {w w' : Run} → Live cs latest grants k w → Live cs latest grants k' w' → (g : ℕ)
       → w.start ≤ g → g < w.start + w.length → w'.start ≤ g → g < w'.start + w'.length → k ≡ k'
-  same_grant l l' g a b c d = let p = l.mine (16 * g) (omega arith) (omega arith) in let q = l'.mine (16 * g) (omega arith) (omega arith) in some_same (sym p ∙ q)
+  same_grant l l' g a b c d = cc (l.mine (16 * g) (omega arith) (omega arith), l'.mine (16 * g) (omega arith) (omega arith))
 
   pub same_run : {k k' : ℕ} {w w' : Run} → Live cs latest grants k w → Live cs latest grants k' w' → (g : ℕ)
       → w.start ≤ g → g < w.start + w.length → w'.start ≤ g → g < w'.start + w'.length → (w.start ≡ w'.start) × (w.length ≡ w'.length)
   same_run {k} {k'} {w} {w'} l l' g a b c d =
       let e = same_grant l l' g a b c d in
-      let z = some_same (sym l.granted ∙ (ap grants e ∙ l'.granted)) in
+      let z = same_Some _ _ (sym l.granted ∙ (ap grants e ∙ l'.granted)) in
       let x : base_of l.whole ≡ base_of l'.whole = ap (λ (v : Grant). base_of v.whole) z in
       let y : top_of l.whole ≡ top_of l'.whole = ap (λ (v : Grant). top_of v.whole) z in
       let p = live_bounds l in
@@ -162,24 +110,20 @@ module _ {cs : List Cell} {latest : ℕ → Option ℕ} {grants : ℕ → Option
   -- a live run is in the painted ones wholly or not at all
   pub wholly : {k : ℕ} {w : Run} (rs : List Run) → AllLive cs latest grants rs → Live cs latest grants k w → (g₀ : ℕ) → w.start ≤ g₀ → g₀ < w.start + w.length → in_runs rs g₀ ≡ false
       → (g : ℕ) → w.start ≤ g → g < w.start + w.length → in_runs rs g ≡ false
-  wholly {k} {w} rs al l g₀ lo₀ hi₀ out g lo hi = elim (cases_Bool (in_runs rs g)) [
-    | inl y ↦ let (r, am, rlo, rhi) = among_in rs g y in
-        let s = same_run l (al r am).1 g lo hi rlo rhi in
-        no_yes (sym (in_among rs r g₀ am (omega arith) (omega arith)) ∙ out)
-    | inr n ↦ n
-  ]
+  wholly {k} {w} rs al l g₀ lo₀ hi₀ out g lo hi = false_from_ne_true _ λ y.
+      let (r, am, rlo, rhi) = among_in rs g y in
+      let s = same_run l (al r am).1 g lo hi rlo rhi in
+      cc (in_among rs r g₀ am (omega arith) (omega arith))
 
   -- live runs that begin at different granules share none
   pub disjoint : (rs : List Run) → AllLive cs latest grants rs → Once rs → Disjoint rs
   disjoint [] al o = tt
   disjoint (r ∷ rs) al o = (
-    (λ g e. elim (cases_Bool (in_runs rs g)) [
-      | inl y ↦ let (x, am, lo, hi) = among_in rs g y in
-          let h = in_run_true r g e in
-          let s = same_run (al r (inl refl)).1 (al x (inr am)).1 g h.0 h.1 lo hi in
-          no_yes (sym (begins_among rs x am) ∙ (ap (begins_at rs) (sym s.0) ∙ o.0))
-      | inr n ↦ n
-    ]),
+    (λ g e. false_from_ne_true _ λ y.
+        let (x, am, lo, hi) = among_in rs g y in
+        let h = within_true r.start r.length g e in
+        let s = same_run (al r (inl refl)).1 (al x (inr am)).1 g h.0 h.1 lo hi in
+        cc (begins_among rs x am)),
     disjoint rs (λ x a. al x (inr a)) o.1,
   )
 
@@ -226,12 +170,6 @@ module _ {cs : List Cell} {latest : ℕ → Option ℕ} {grants : ℕ → Option
     inside = o.inside;
   }
 
-within_from : (a n g : ℕ) → a ≤ g → g < a + n → within a n g ≡ true
-within_from a n g lo hi = grind (arith, nat_tests)
-
-span_from : (x i y : ℕ) → x ≤ i → i < y → (leb x i && ltb i y) ≡ true
-span_from x i y lo hi = grind (arith, nat_tests)
-
 -- a run more
 module _ (cs : List Cell) (latest : ℕ → Option ℕ) (grants : ℕ → Option Grant) (b n k₀ to : ℕ) (whole : Capability)
     (made : capability_of (16 * b) (16 * b + 16 * n) all_permissions ≡ Some whole) (pos : 0 < n) (room : FreeAt cs b n) where
@@ -244,18 +182,11 @@ module _ (cs : List Cell) (latest : ℕ → Option ℕ) (grants : ℕ → Option
   abbrev pub more : ℕ → Option Grant
   more = put_at grants k₀ (Some (record { to = to; whole = whole }))
 
-  pub room_free : (g : ℕ) → b ≤ g → g < b + n → get_or cs g Free ≡ Free
-  room_free g lo hi =
-      let e : b + (g - b) ≡ g = omega arith in
-      known cs g (omega (arith, room.0)) (ap (λ (x : ℕ). get_or cs x Rest) (sym e) ∙ room.1 (g - b) (omega arith))
-    where
-      known : (xs : List Cell) (i : ℕ) → i < length xs → get_or xs i Rest ≡ Free → get_or xs i Free ≡ Free
-      known [] i lt e = absurd (let f : ⊥ = omega arith in f)
-      known (x ∷ xs) zero lt e = e
-      known (x ∷ xs) (suc i) lt e = known xs i (omega arith) e
+  room_free : (g : ℕ) → b ≤ g → g < b + n → get_or cs g Free ≡ Free
+  room_free = (room_of cs b n room).1
 
   spans : (base_of whole ≡ 16 * b) × (top_of whole ≡ 16 * b + 16 * n)
-  spans = let m = made_base _ _ _ whole made in (m.0, m.1)
+  spans = let m = made_numbers _ _ _ whole made in (m.0, m.1)
 
   pub live_grown : {k : ℕ} {w : Run} → k < k₀ → Live cs latest grants k w → Live grown later more k w
   live_grown {k} {w} lt l = record {
@@ -269,13 +200,10 @@ module _ (cs : List Cell) (latest : ℕ → Option ℕ) (grants : ℕ → Option
   }
     where
       outside : (g : ℕ) → w.start ≤ g → g < w.start + w.length → within b n g ≡ false
-      outside g lo hi = elim (cases_Bool (within b n g)) [ inl y ↦ absurd (let q = within_true b n g y in live_taken l g lo hi (room_free g q.0 q.1)) | inr x ↦ x ]
+      outside g lo hi = false_from_ne_true _ λ y. let q = within_true b n g y in live_taken l g lo hi (room_free g q.0 q.1)
 
       apart : (i : ℕ) → within b n (i / 16) ≡ false → (leb (base_of whole) i && ltb i (top_of whole)) ≡ false
-      apart i o = let s = spans in go (base_of whole) (top_of whole) s.0 s.1
-        where
-          go : (x y : ℕ) → x ≡ 16 * b → y ≡ 16 * b + 16 * n → (leb x i && ltb i y) ≡ false
-          go x y p q = grind (arith, nat_tests)
+      apart i o = let s = spans in grind (arith, nat_tests)
 
   pub live_new : Live grown later more k₀ (record { start = b; length = n })
   live_new = record {
@@ -284,8 +212,8 @@ module _ (cs : List Cell) (latest : ℕ → Option ℕ) (grants : ℕ → Option
     made = made;
     granted = cond-true (eqb k₀ k₀) _ _ (eq-eqb k₀ k₀ refl);
     some = pos;
-    cells = λ g lo hi. get_taken cs b n g pos room.0 ∙ cond-true (within b n g) _ _ (within_from b n g lo hi);
-    mine = λ i lo hi. cond-true (leb (base_of whole) i && ltb i (top_of whole)) _ _ (let s = spans in span_from (base_of whole) i (top_of whole) (omega arith) (omega arith));
+    cells = λ g lo hi. get_taken cs b n g pos room.0 ∙ cond-true (within b n g) _ _ (within_is b n g lo hi);
+    mine = λ i lo hi. cond-true (leb (base_of whole) i && ltb i (top_of whole)) _ _ (let s = spans in grind (arith, nat_tests));
   }
 
   pub sound_grown : {a : Capability} {e : Option Entry} (o : Sound cs latest grants a e) → o.provenance < k₀ → Sound grown later more a e

@@ -1,9 +1,8 @@
 -- When runs become free.
-use Rattle.std.proofs.Common.{◌≡◌, ℕ, ◌+◌, ◌-◌, ◌<◌, ◌≤◌, Bool, true, false, cond, eqb, ◌⊎◌, List, [], ◌∷◌, ◌++◌, length, get_or, Ok, sym, refl, ap, ◌∙◌, subst, inl, inr, add-zero, arith}
-use Rattle.std.proofs.lemmas.List.{append_assoc, append-nil, get_or_default}
+use Rattle.std.proofs.Common.{◌≡◌, ℕ, ◌+◌, ◌<◌, ◌≤◌, Bool, true, false, ◌⊎◌, List, [], ◌∷◌, ◌++◌, length, get_or, Ok, sym, refl, ap, ◌∙◌, subst, inl, inr, add-zero, arith}
+use Rattle.std.proofs.lemmas.List.{append_assoc, append-nil}
 use Rattle.std.proofs.lemmas.Bool.{cases_Bool, cond-true, cond-false}
-use Rattle.allocator.specs.declared.cell.Cell.TheVariants.{Free, First, Rest}
-use Rattle.allocator.specs.Maps.{FreeAt}
+use Rattle.allocator.specs.declared.cell.Cell.TheVariants.{Free}
 use Rattle.authority.specs.Capabilities.{base_of}
 use Rattle.machine.specs.Calls.{Call}
 use Rattle.machine.specs.Model.{Effect, Fixed, State, fresh_state, outcome, state_after}
@@ -15,13 +14,15 @@ use Rattle.history.specs.Histories.{Sized, after, answer_to, outcomes, state_aft
 use Rattle.history.specs.Ledgers.{Ledger, empty_ledger, note, noted_all}
 use Rattle.history.specs.Provenance.{ledger}
 use Rattle.history.specs.Release.{FreedBySweep, IsFree, MemoryReturnsWhenTheSweepEnds, NoShut, NoShuts, NoneFree, Returns, Waits, granules_named, granules_named_in, granules_since, outcomes_since, run_from}
-use Rattle.history.proofs.Base.{Among, within, among_append, among_left, among_right, err_ok, ok_same, within_true}
+use Rattle.history.proofs.Authorities.{made_numbers}
+use Rattle.history.proofs.Base.{Among, among_append, among_left, among_push, among_right, err_ok, within, within_true}
 use Rattle.history.proofs.Invariant.{Inv, Live}
-use Rattle.history.proofs.Changes.{painted_released}
-use Rattle.history.proofs.Laws.{get_taken, made_base}
-use Rattle.history.proofs.Live.{among_in, in_among, live_taken}
+use Rattle.history.proofs.Changes.{idle_open, open_same, painted_released}
+use Rattle.history.proofs.Laws.{get_taken, in_among}
+use Rattle.history.proofs.Live.{among_in, live_taken}
+use Rattle.history.proofs.Rooms.{Room, room_of}
 use Rattle.history.proofs.Steps.{inv_fresh, inv_run, inv_step}
-use Rattle.history.proofs.View.{View, v_no, v_grant, v_free, v_derive, v_getb, v_putb, v_putc, v_getc, v_give, v_drop, v_open, v_pass, v_end, v_shut, view}
+use Rattle.history.proofs.View.{View, v_no, v_grant, v_free, v_open, v_pass, v_end, v_shut, view}
 
 -- histories
 
@@ -49,52 +50,35 @@ module _ {K : Fixed} {s : State} {b : Ledger} (v : Inv K s b) where
   held_some : (r : Run) → Among r (s.painted ++ s.waiting) → (0 < r.length) × (0 < K.memory_granules)
   held_some r am =
       let l = (held_taken r am).1 in
-      let m = made_base _ _ _ l.whole l.made in
+      let m = made_numbers _ _ _ l.whole l.made in
       let n = (v.numbered _ _ l.granted).1 in
       (l.some, omega (arith, l.some, m.1))
-
-among_nil : (rs : List Run) (r : Run) → Among r (rs ++ []) → Among r rs
-among_nil rs r h = elim (among_append rs [] r h) [ inl q ↦ q | inr q ↦ absurd q ]
-
-clash : {X : Type 0} → ◌≡◌ {A = ℕ} 0 1 → X
-clash z = absurd (let f : ⊥ = omega arith in f)
 
 -- what a call leaves of the runs in quarantine: all but those that a sweep's end frees
 stays : (K : Fixed) (s : State) (b : Ledger) → Inv K s b → {x : Call} {d : Effect} → View K s x d → (r : Run) → Among r (s.painted ++ s.waiting) → NoneFree (state_after s d) r
     → Among r ((state_after s d).painted ++ (state_after s d).waiting)
-stays K s b v v_no r am nf = am
-stays K s b v (v_grant g next hc hr pos same e) r am nf = am
 stays K s b v (v_free a hc hr e own al whole w) r am nf = elim (among_append s.painted s.waiting r am) [
   | inl h ↦ among_left s.painted _ r h
   | inr h ↦ among_right s.painted _ r (among_left s.waiting _ r h)
 ]
-stays K s b v (v_derive a d hc hr ht e q) r am nf = am
-stays K s b v (v_getb a hc hr e perm lt) r am nf = am
-stays K s b v (v_putb a hc hr e perm lt) r am nf = am
-stays K s b v (v_putc a c hc hr ht e e' p q lt al) r am nf = am
-stays K s b v (v_getc a c hc hr ht e p q lt al tag cap new) r am nf = am
-stays K s b v (v_give a hc hr hd ht e) r am nf = am
-stays K s b v (v_drop hc hr) r am nf = am
 stays K s b v (v_open e) r am nf = elim (among_append s.painted s.waiting r am) [
-  | inl h ↦ absurd (subst (λ (l : List Run). Among r l) (v.idle e) h)
+  | inl h ↦ absurd (rw (v.idle e) at h)
   | inr h ↦ among_left s.waiting [] r h
 ]
-stays K s b v (v_pass p pos e lt) r am nf = am
 stays K s b v (v_end p pos e le) r am nf = elim (among_append s.painted s.waiting r am) [
   | inl h ↦ let l = (v.painted r h).1 in
       absurd (nf r.start (omega arith, omega (arith, l.some)) (painted_released K s b v r.start ∙ cond-true _ _ _ (in_among s.painted r r.start h (omega arith) (omega (arith, l.some)))))
   | inr h ↦ h
 ]
-stays K s b v (v_shut p e) r am nf = am
+stays K s b v _ r am nf = am
 
 -- the run that an accepted free takes joins the waiting ones
 freed_joins : (K : Fixed) (s : State) {c n : ℕ} {d : Effect} → View K s (Call.Free c n) d → (at : ℕ) → outcome d ≡ Ok at
     → Among (run_from s at) ((state_after s d).painted ++ (state_after s d).waiting)
 freed_joins K s v_no at q = err_ok q
 freed_joins K s (v_free a hc hr e own al whole w) at q =
-    let z : base_of a ≡ at = ok_same q in
-    subst (λ (i : ℕ). Among (run_from s i) (s.painted ++ (s.waiting ++ (run_from s (base_of a) ∷ [])))) z
-    (among_right s.painted _ _ (among_right s.waiting _ _ (inl refl)))
+    let z : base_of a ≡ at = cc in
+    rw (← z) (among_right s.painted _ _ (among_right s.waiting _ _ (inl refl)))
 
 -- and it stays as long as no granule of it is free
 stays_all : (K : Fixed) (s : State) (b : Ledger) → Inv K s b → (since : List Call) (r : Run) → Among r (s.painted ++ s.waiting)
@@ -111,7 +95,7 @@ pub waits_held : (K : Fixed) (p : List Call) (r : Run) → Sized K → Waits K p
 waits_held K p r sz w =
     subst (λ (s : State). Among r (s.painted ++ s.waiting)) (sym there)
     (stays_all K t _ (inv_step K s₀ (ledger K w.before) (inv_of K w.before sz) (view K s₀ x)) w.since r joined
-    (λ xs ys e. subst (λ (s : State). NoneFree s r) (after_append K (fresh_state K) w.before (x ∷ xs)) (w.taken xs ys e)))
+    (λ xs ys e. rw (after_append K (fresh_state K) w.before (x ∷ xs)) at (w.taken xs ys e)))
   where
     x : Call
     x = Call.Free w.compartment w.register
@@ -126,7 +110,7 @@ waits_held K p r sz w =
     there = ap (after K) w.history ∙ after_append K (fresh_state K) w.before (x ∷ w.since)
 
     joined : Among r (t.painted ++ t.waiting)
-    joined = subst (λ (y : Run). Among y (t.painted ++ t.waiting)) (sym w.run) (freed_joins K s₀ (view K s₀ x) w.at w.freed)
+    joined = rw w.run (freed_joins K s₀ (view K s₀ x) w.at w.freed)
 
 -- a sweep goes on
 
@@ -138,20 +122,11 @@ module _ (K : Fixed) (s : State) (m : ℕ) (sw : s.sweep ≡ Open m) where
   stay = (rw (add-zero m) sw, refl)
 
   on_step : {x : Call} {d : Effect} → View K s x d → NoShut x (outcome d) → m + granules_named x (outcome d) < K.memory_granules → On s (state_after s d) m (granules_named x (outcome d))
-  on_step v_no h lt = stay
-  on_step (v_grant g next hc hr pos same e) h lt = stay
-  on_step (v_free a hc hr e own al whole w) h lt = stay
-  on_step (v_derive a d hc hr ht e q) h lt = stay
-  on_step (v_getb a hc hr e perm l) h lt = stay
-  on_step (v_putb a hc hr e perm l) h lt = stay
-  on_step (v_putc a c hc hr ht e e' p q l al) h lt = stay
-  on_step (v_getc a c hc hr ht e p q l al tag cap new) h lt = stay
-  on_step (v_give a hc hr hd ht e) h lt = stay
-  on_step (v_drop hc hr) h lt = stay
-  on_step (v_open e) h lt = let z : ◌≡◌ {A = ℕ} 0 1 = cc in clash z
-  on_step (v_pass {k} p pos e l) h lt = let z : p ≡ m = cc in (ap (λ (n : ℕ). Open (n + k)) z, refl)
-  on_step (v_end {k} p pos e l) h lt = let z : p ≡ m = cc in absurd (let f : ⊥ = omega arith in f)
+  on_step (v_open e) h lt = idle_open (sym e ∙ sw)
+  on_step (v_pass {k} p pos e l) h lt = let z : p ≡ m = open_same (sym e ∙ sw) in (ap (λ (n : ℕ). Open (n + k)) z, refl)
+  on_step (v_end {k} p pos e l) h lt = let z : p ≡ m = open_same (sym e ∙ sw) in absurd (omega arith)
   on_step (v_shut p e) h lt = absurd h
+  on_step _ h lt = stay
 
 on_run : (K : Fixed) (q : List Call) (s : State) (m : ℕ) → s.sweep ≡ Open m → NoShuts q (outcomes K s q) → m + granules_named_in q (outcomes K s q) < K.memory_granules
     → On s (state_after_all K s q) m (granules_named_in q (outcomes K s q))
@@ -169,7 +144,7 @@ on_run K (x ∷ q) s m sw h lt =
 at_end : (K : Fixed) (s : State) (b : Ledger) → Inv K s b → (m k : ℕ) → s.sweep ≡ Open m → K.memory_granules ≤ m + k → {d : Effect} → View K s (Call.Step k) d → (a : ℕ) → outcome d ≡ Ok a
     → (g : ℕ) → in_runs s.painted g ≡ true → get_or (state_after s d).cells g Free ≡ Free
 at_end K s b v m k sw le v_no a q g i = err_ok q
-at_end K s b v m k sw le (v_pass p pos e lt) a q g i = let z : p ≡ m = cc in absurd (let f : ⊥ = omega arith in f)
+at_end K s b v m k sw le (v_pass p pos e lt) a q g i = let z : p ≡ m = open_same (sym e ∙ sw) in absurd (omega arith)
 at_end K s b v m k sw le (v_end p pos e l) a q g i = painted_released K s b v g ∙ cond-true _ _ _ i
 
 opened : (K : Fixed) (s : State) (b : Ledger) → Inv K s b → {d : Effect} → View K s Call.OpenSweep d → (a : ℕ) → outcome d ≡ Ok a
@@ -183,7 +158,7 @@ opened K s b v (v_open e) a q = (refl, refl, v.idle e)
 cut_last : (us : List Call) (x : Call) (xs ys : List Call) → us ++ (x ∷ []) ≡ xs ++ ys → ((zs : List Call) × (us ≡ xs ++ zs)) ⊎ (xs ≡ us ++ (x ∷ []))
 cut_last us x [] ys e = inl (us, refl)
 cut_last [] x (y ∷ []) ys e = inr (let z : x ≡ y = cc in ap (λ w. w ∷ []) (sym z))
-cut_last [] x (y ∷ (w ∷ xs)) ys e = let z : ◌≡◌ {A = ℕ} 0 1 = cc in clash z
+cut_last [] x (y ∷ (w ∷ xs)) ys e = cc
 cut_last (a ∷ us) x (y ∷ xs) ys e =
     let h : a ≡ y = cc in
     let t : us ++ (x ∷ []) ≡ xs ++ ys = cc in
@@ -218,32 +193,18 @@ AllWait K p = (r : Run) → Among r ((after K p).painted ++ (after K p).waiting)
 -- the runs in quarantine after a call were there before, but for the one that a free takes
 joined_by : (K : Fixed) (s : State) {x : Call} {d : Effect} → View K s x d → (r : Run) → Among r ((state_after s d).painted ++ (state_after s d).waiting)
     → Among r (s.painted ++ s.waiting) ⊎ ((c n at : ℕ) × (x ≡ Call.Free c n) × (outcome d ≡ Ok at) × (r ≡ run_from s at))
-joined_by K s v_no r am = inl am
-joined_by K s (v_grant g next hc hr pos same e) r am = inl am
 joined_by K s (v_free {c} {r = n} a hc hr e own al whole w) r am = elim (among_append s.painted _ r am) [
   | inl h ↦ inl (among_left s.painted _ r h)
-  | inr h ↦ elim (among_append s.waiting _ r h) [
-    | inl q ↦ inl (among_right s.painted _ r q)
-    | inr q ↦ elim q [ inl z ↦ inr (c, n, base_of a, refl, refl, z) | inr z ↦ absurd z ]
-  ]
+  | inr h ↦ elim (among_push s.waiting _ r h) [ inl q ↦ inl (among_right s.painted _ r q) | inr z ↦ inr (c, n, base_of a, refl, refl, z) ]
 ]
-joined_by K s (v_derive a d hc hr ht e q) r am = inl am
-joined_by K s (v_getb a hc hr e perm lt) r am = inl am
-joined_by K s (v_putb a hc hr e perm lt) r am = inl am
-joined_by K s (v_putc a c hc hr ht e e' p q lt al) r am = inl am
-joined_by K s (v_getc a c hc hr ht e p q lt al tag cap new) r am = inl am
-joined_by K s (v_give a hc hr hd ht e) r am = inl am
-joined_by K s (v_drop hc hr) r am = inl am
-joined_by K s (v_open e) r am = inl (among_right s.painted _ r (among_nil s.waiting r am))
-joined_by K s (v_pass p pos e lt) r am = inl am
+joined_by K s (v_open e) r am = inl (among_right s.painted _ r (rw append-nil at am))
 joined_by K s (v_end p pos e le) r am = inl (among_right s.painted _ r am)
-joined_by K s (v_shut p e) r am = inl am
+joined_by K s _ r am = inl am
 
 wait_step : (K : Fixed) (p : List Call) (x : Call) → Sized K → AllWait K p → AllWait K (p ++ (x ∷ []))
 wait_step K p x sz all r am = elim (joined_by K s (view K s x) r am') [
   | inl h ↦ waits_more K p x r (all r h) nf
-  | inr h ↦
-      let c = h.0 in let n = h.1 in let at = h.2 in let xe = h.3 in
+  | inr (c, n, at, xe, ok, is) ↦
       let hist : p ++ (x ∷ []) ≡ p ++ (Call.Free c n ∷ []) = ap (λ y. p ++ (y ∷ [])) xe in
       record {
         before = p;
@@ -252,8 +213,8 @@ wait_step K p x sz all r am = elim (joined_by K s (view K s x) r am') [
         since = [];
         at = at;
         history = hist;
-        freed = subst (λ (y : Call). outcome (perform K s y) ≡ Ok at) xe h.4;
-        run = h.5;
+        freed = rw xe at ok;
+        run = is;
         taken = λ xs ys e. subst (λ (l : List Call). NoneFree (after K (p ++ (Call.Free c n ∷ l))) r) (none_left xs ys e) (subst (λ (l : List Call). NoneFree (after K l) r) hist nf);
       }
 ]
@@ -262,19 +223,19 @@ wait_step K p x sz all r am = elim (joined_by K s (view K s x) r am') [
     s = after K p
 
     am' : Among r ((state_after s (perform K s x)).painted ++ (state_after s (perform K s x)).waiting)
-    am' = subst (λ (y : State). Among r (y.painted ++ y.waiting)) (after_more K p x) am
+    am' = rw (after_more K p x) at am
 
     nf : NoneFree (after K (p ++ (x ∷ []))) r
     nf = held_not_free (inv_of K (p ++ (x ∷ [])) sz) r am
 
     none_left : (xs ys : List Call) → [] ≡ xs ++ ys → [] ≡ xs
     none_left [] ys e = refl
-    none_left (y ∷ xs) ys e = let z : ◌≡◌ {A = ℕ} 0 1 = cc in clash z
+    none_left (y ∷ xs) ys e = cc
 
 -- what holds at first and is kept by every call holds after every history
 every : (P : List Call → Type 0) → ((p : List Call) (x : Call) → P p → P (p ++ (x ∷ []))) → (done todo : List Call) → P done → P (done ++ todo)
-every P step done [] h = subst P (sym (append-nil done)) h
-every P step done (x ∷ todo) h = subst P (append_assoc done (x ∷ []) todo) (every P step (done ++ (x ∷ [])) todo (step done x h))
+every P step done [] h = rw append-nil h
+every P step done (x ∷ todo) h = rw append_assoc at (every P step (done ++ (x ∷ [])) todo (step done x h))
 
 pub all_wait : (K : Fixed) (p : List Call) → Sized K → AllWait K p
 all_wait K p sz = every (AllWait K) (λ q x. wait_step K q x sz) [] p (λ r am. absurd am)
@@ -289,12 +250,12 @@ after_shut K s (v_shut p e) r am = am
 pub returned : (K : Fixed) (p q : List Call) (r : Run) (a : ℕ) → Sized K → answer_to K p Call.OpenSweep ≡ Ok a → Waits K p r
     → NoShuts q (outcomes_since K p q) → granules_since K p q < K.memory_granules → Returns K p q r
 returned K p q r a sz acc w un lt = record {
-  not_yet = subst (λ (y : State). NoneFree y r) (sym go_on) taken;
+  not_yet = rw go_on taken;
   then = λ k c ans le g i.
-      subst (λ (y : State). get_or y.cells g Free ≡ Free) (sym (last (Call.Step k)))
-      (at_end K t _ inv (0 + named) k on.0 (omega (arith, n_same)) (view K t (Call.Step k)) c (subst (λ (y : State). outcome (perform K y (Call.Step k)) ≡ Ok c) go_on ans) g (in_among t.painted r g am i.0 i.1));
+      rw (last (Call.Step k))
+      (at_end K t _ inv (0 + named) k on.0 (omega (arith, n_same)) (view K t (Call.Step k)) c (rw go_on at ans) g (in_among t.painted r g am i.0 i.1));
   shut = λ c ans. all_wait K (p ++ (Call.OpenSweep ∷ (q ++ (Call.Shut ∷ [])))) sz r
-      (subst (λ (y : State). Among r (y.painted ++ y.waiting)) (sym (last Call.Shut)) (after_shut K t (view K t Call.Shut) r (among_left t.painted t.waiting r am)));
+      (rw (last Call.Shut) (after_shut K t (view K t Call.Shut) r (among_left t.painted t.waiting r am)));
 }
   where
     s : State
@@ -328,16 +289,16 @@ returned K p q r a sz acc w un lt = record {
     n_same = ap (λ (x : State). granules_named_in q (outcomes K x q)) first_open
 
     on : On o t 0 named
-    on = on_run K q o 0 op.0 (subst (λ (x : State). NoShuts q (outcomes K x q)) first_open un) (omega (arith, n_same))
+    on = on_run K q o 0 op.0 (rw first_open at un) (omega (arith, n_same))
 
     inv : Inv K t (noted_all (note (ledger K p) Call.OpenSweep (outcome (perform K s Call.OpenSweep))) q (outcomes K o q))
     inv = inv_run K q o _ (inv_step K s (ledger K p) inv_s (view K s Call.OpenSweep))
 
     waiting_at : Among r s.waiting
-    waiting_at = subst (λ (l : List Run). Among r (l ++ s.waiting)) op.2 (waits_held K p r sz w)
+    waiting_at = rw op.2 at (waits_held K p r sz w)
 
     am : Among r t.painted
-    am = subst (λ (l : List Run). Among r l) (sym (on.1 ∙ op.1)) waiting_at
+    am = rw (on.1, op.1) waiting_at
 
     taken : NoneFree t r
     taken = held_not_free inv r (among_left t.painted t.waiting r am)
@@ -356,12 +317,12 @@ pub record Opened (K : Fixed) (p : List Call) (n : ℕ) : Type 0 where
   pub runs : (after K p).painted ≡ (after K before).waiting
 
 outcomes_more : (K : Fixed) (s : State) (xs : List Call) (x : Call) → granules_named_in (xs ++ (x ∷ [])) (outcomes K s (xs ++ (x ∷ []))) ≡ granules_named_in xs (outcomes K s xs) + granules_named x (outcome (perform K (state_after_all K s xs) x))
-outcomes_more K s [] x = let z : granules_named x (outcome (perform K s x)) + 0 ≡ 0 + granules_named x (outcome (perform K s x)) = omega arith in z
+outcomes_more K s [] x = omega arith
 outcomes_more K s (y ∷ xs) x =
     let t = state_after s (perform K s y) in
     let m = granules_named y (outcome (perform K s y)) in
     let ih = outcomes_more K t xs x in
-    ap (λ k. m + k) ih ∙ (let z : m + (granules_named_in xs (outcomes K t xs) + granules_named x (outcome (perform K (state_after_all K t xs) x))) ≡ m + granules_named_in xs (outcomes K t xs) + granules_named x (outcome (perform K (state_after_all K t xs) x)) = omega arith in z)
+    omega arith
 
 shuts_more : (K : Fixed) (s : State) (xs : List Call) (x : Call) → NoShuts xs (outcomes K s xs) → NoShut x (outcome (perform K (state_after_all K s xs) x)) → NoShuts (xs ++ (x ∷ [])) (outcomes K s (xs ++ (x ∷ [])))
 shuts_more K s [] x h k = (k, tt)
@@ -380,30 +341,21 @@ pub record Went (K : Fixed) (s : State) (x : Call) (d : Effect) (n : ℕ) : Type
   pub same : (state_after s d).painted ≡ s.painted
 
 went : (K : Fixed) (s : State) {x : Call} {d : Effect} → View K s x d → (n : ℕ) → (state_after s d).sweep ≡ Open n → Went K s x d n ⊎ ((x ≡ Call.OpenSweep) × (n ≡ 0) × ((a : ℕ) × (outcome d ≡ Ok a)) × ((state_after s d).painted ≡ s.waiting))
-went K s v_no n e = inl (record { was = n; opens = e; moved = sym (add-zero n); no_shut = tt; near = inl refl; same = refl })
-went K s (v_grant g next hc hr pos same q) n e = inl (record { was = n; opens = e; moved = sym (add-zero n); no_shut = tt; near = inl refl; same = refl })
-went K s (v_free a hc hr q own al whole w) n e = inl (record { was = n; opens = e; moved = sym (add-zero n); no_shut = tt; near = inl refl; same = refl })
-went K s (v_derive a d hc hr ht q z) n e = inl (record { was = n; opens = e; moved = sym (add-zero n); no_shut = tt; near = inl refl; same = refl })
-went K s (v_getb a hc hr q perm lt) n e = inl (record { was = n; opens = e; moved = sym (add-zero n); no_shut = tt; near = inl refl; same = refl })
-went K s (v_putb a hc hr q perm lt) n e = inl (record { was = n; opens = e; moved = sym (add-zero n); no_shut = tt; near = inl refl; same = refl })
-went K s (v_putc a c hc hr ht q q' p w lt al) n e = inl (record { was = n; opens = e; moved = sym (add-zero n); no_shut = tt; near = inl refl; same = refl })
-went K s (v_getc a c hc hr ht q p w lt al tag cap new) n e = inl (record { was = n; opens = e; moved = sym (add-zero n); no_shut = tt; near = inl refl; same = refl })
-went K s (v_give a hc hr hd ht q) n e = inl (record { was = n; opens = e; moved = sym (add-zero n); no_shut = tt; near = inl refl; same = refl })
-went K s (v_drop hc hr) n e = inl (record { was = n; opens = e; moved = sym (add-zero n); no_shut = tt; near = inl refl; same = refl })
-went K s (v_open q) n e = inr (refl, (let z : n ≡ 0 = cc in z), (length s.waiting, refl), refl)
-went K s (v_pass {k} p pos q lt) n e = let z : p + k ≡ n = cc in inl (record { was = p; opens = q; moved = sym z; no_shut = tt; near = inr (omega arith); same = refl })
-went K s (v_end p pos q le) n e = let z : ◌≡◌ {A = ℕ} 0 1 = cc in clash z
-went K s (v_shut p q) n e = let z : ◌≡◌ {A = ℕ} 0 1 = cc in clash z
+went K s (v_open q) n e = inr (refl, cc, (length s.waiting, refl), refl)
+went K s (v_pass {k} p pos q lt) n e = let z : p + k ≡ n = open_same e in inl (record { was = p; opens = q; moved = sym z; no_shut = tt; near = inr (omega arith); same = refl })
+went K s (v_end p pos q le) n e = idle_open e
+went K s (v_shut p q) n e = idle_open e
+went K s _ n e = inl (record { was = n; opens = e; moved = sym (add-zero n); no_shut = tt; near = inl refl; same = refl })
 
 back_step : (K : Fixed) (p : List Call) (x : Call) → GoesBack K p → GoesBack K (p ++ (x ∷ []))
-back_step K p x all n e = elim (went K s (view K s x) n (subst (λ (y : State). y.sweep ≡ Open n) (after_more K p x) e)) [
+back_step K p x all n e = elim (went K s (view K s x) n (rw (after_more K p x) at e)) [
   | inl w ↦ on w (all w.was w.opens)
   | inr h ↦ record {
     before = p;
     since = [];
     answer = h.2.0;
     history = ap (λ y. p ++ (y ∷ [])) h.0;
-    accepted_at = subst (λ (y : Call). outcome (perform K s y) ≡ Ok h.2.0) h.0 h.2.1;
+    accepted_at = rw h.0 at h.2.1;
     no_shut = tt;
     named = h.1;
     near = inl h.1;
@@ -424,7 +376,7 @@ back_step K p x all n e = elim (went K s (view K s x) n (subst (λ (y : State). 
       answer = o.answer;
       history = ap (λ l. l ++ (x ∷ [])) o.history ∙ append_assoc o.before (Call.OpenSweep ∷ o.since) (x ∷ []);
       accepted_at = o.accepted_at;
-      no_shut = shuts_more K u o.since x o.no_shut (subst (λ (y : State). NoShut x (outcome (perform K y x))) (sym here) w.no_shut);
+      no_shut = shuts_more K u o.since x o.no_shut (rw here w.no_shut);
       named = w.moved ∙ (ap (λ m. m + granules_named x (outcome d)) o.named ∙ (ap (λ (y : State). granules_since K o.before o.since + granules_named x (outcome (perform K y x))) (sym here) ∙ sym (outcomes_more K u o.since x)));
       near = elim w.near [
         | inl z ↦ (elim o.near [ inl q ↦ inl (omega (arith, w.moved)) | inr q ↦ inr (omega (arith, w.moved)) ])
@@ -440,66 +392,49 @@ back_step K p x all n e = elim (went K s (view K s x) n (subst (λ (y : State). 
         here = sym (ap (after K) (o.history ∙ sym (append_assoc o.before (Call.OpenSweep ∷ []) o.since)) ∙ after_append K (fresh_state K) (o.before ++ (Call.OpenSweep ∷ [])) o.since)
 
 goes_back : (K : Fixed) (p : List Call) → GoesBack K p
-goes_back K p = every (GoesBack K) (back_step K) [] p (λ n e. let z : ◌≡◌ {A = ℕ} 0 1 = cc in clash z)
+goes_back K p = every (GoesBack K) (back_step K) [] p (λ n e. idle_open e)
 
 -- the one way in which a granule becomes free
 frees : (K : Fixed) (s : State) (b : Ledger) → Inv K s b → {x : Call} {d : Effect} → View K s x d → (g : ℕ) → (IsFree s g → ⊥) → IsFree (state_after s d) g
     → (k n : ℕ) × (x ≡ Call.Step k) × (s.sweep ≡ Open n) × (K.memory_granules ≤ n + k) × (in_runs s.painted g ≡ true)
-frees K s b v v_no g t f = absurd (t f)
 frees K s b v (v_grant {n = n} at next hc hr pos same e) g t f = absurd (t (was (within at n g) refl))
   where
-    room : FreeAt s.cells at n
-    room = K.lawful.answered s.cells s.mark n at next pos e
+    room : Room s.cells at n
+    room = room_of s.cells at n (K.lawful.answered s.cells s.mark n at next pos e)
 
     was : (y : Bool) → within at n g ≡ y → IsFree s g
-    was true q =
-        let w = within_true at n g q in
-        let z : at + (g - at) ≡ g = omega arith in
-        let h = room.1 (g - at) (omega arith) in
-        ap (λ i. get_or s.cells i Free) (sym z) ∙ (get_or_default s.cells (at + (g - at)) Free Rest (omega (arith, room.0)) ∙ h)
-    was false q = sym (cond-false (within at n g) (cond (eqb g at) First Rest) (get_or s.cells g Free) q) ∙ (sym (get_taken s.cells at n g pos room.0) ∙ f)
-frees K s b v (v_free a hc hr e own al whole w) g t f = absurd (t f)
-frees K s b v (v_derive a d hc hr ht e q) g t f = absurd (t f)
-frees K s b v (v_getb a hc hr e perm lt) g t f = absurd (t f)
-frees K s b v (v_putb a hc hr e perm lt) g t f = absurd (t f)
-frees K s b v (v_putc a c hc hr ht e e' p q lt al) g t f = absurd (t f)
-frees K s b v (v_getc a c hc hr ht e p q lt al tag cap new) g t f = absurd (t f)
-frees K s b v (v_give a hc hr hd ht e) g t f = absurd (t f)
-frees K s b v (v_drop hc hr) g t f = absurd (t f)
-frees K s b v (v_open e) g t f = absurd (t f)
-frees K s b v (v_pass p pos e lt) g t f = absurd (t f)
+    was true q = let w = within_true at n g q in room.1 g w.0 w.1
+    was false q = rw q at (sym (get_taken s.cells at n g pos room.0) ∙ f)
 frees K s b v (v_end {k} p pos e le) g t f = elim (cases_Bool (in_runs s.painted g)) [
   | inl y ↦ (k, p, refl, e, le, y)
   | inr y ↦ absurd (t (sym (cond-false (in_runs s.painted g) Free (get_or s.cells g Free) y) ∙ (sym (painted_released K s b v g) ∙ f)))
 ]
-frees K s b v (v_shut p e) g t f = absurd (t f)
+frees K s b v _ g t f = absurd (t f)
 
 pub freed_by_sweep : (K : Fixed) (p : List Call) (x : Call) (g : ℕ) → Sized K → (IsFree (after K p) g → ⊥) → IsFree (after K (p ++ (x ∷ []))) g → FreedBySweep K p x g
 freed_by_sweep K p x g sz t f =
     let s = after K p in
     let v = inv_of K p sz in
-    let h = frees K s (ledger K p) v (view K s x) g t (subst (λ (y : State). IsFree y g) (after_more K p x) f) in
-    let k = h.0 in
-    let n = h.1 in
-    let o = goes_back K p n h.3 in
-    let r = among_in s.painted g h.5 in
-    let am : Among r.0 (after K o.before).waiting = subst (λ (l : List Run). Among r.0 l) o.runs r.1 in
-    let pos = (held_some v r.0 (among_left s.painted s.waiting r.0 r.1)).1 in
+    let (k, n, is, op, reach, y) = frees K s (ledger K p) v (view K s x) g t (rw (after_more K p x) at f) in
+    let o = goes_back K p n op in
+    let (r, ar, lo, hi) = among_in s.painted g y in
+    let am : Among r (after K o.before).waiting = subst (λ (l : List Run). Among r l) o.runs ar in
+    let pos = (held_some v r (among_left s.painted s.waiting r ar)).1 in
     let lt : n < K.memory_granules = elim o.near [ inl z ↦ omega arith | inr z ↦ z ] in
     record {
       before = o.before;
       since = o.since;
       k = k;
       opened = o.answer;
-      run = r.0;
+      run = r;
       history = o.history;
-      step = h.2;
+      step = is;
       open_accepted = o.accepted_at;
       no_shut = o.no_shut;
       not_before = omega (arith, o.named);
-      reached = omega (arith, o.named, h.4);
-      waited = all_wait K o.before sz r.0 (among_right (after K o.before).painted _ r.0 am);
-      inside = (r.2, r.3);
+      reached = omega (arith, o.named, reach);
+      waited = all_wait K o.before sz r (among_right (after K o.before).painted _ r am);
+      inside = (lo, hi);
     }
 
 pub memory_returns : MemoryReturnsWhenTheSweepEnds

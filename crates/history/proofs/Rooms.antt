@@ -1,6 +1,7 @@
 -- Room for a new run, and the bytes of its granules.
-use Rattle.std.proofs.Common.{◌≡◌, ℕ, zero, suc, ◌+◌, ◌-◌, ◌*◌, ◌/◌, ◌<◌, ◌≤◌, Bool, true, ◌&&◌, ltb, leb, List, [], ◌∷◌, length, get_or, sym, refl, ◌∙◌, subst, inl, inr, arith}
-use Rattle.std.proofs.lemmas.Bool.{and_parts, cases_Bool, le-leb, leb-false, leb-true, ltb-true}
+use Rattle.std.proofs.Common.{◌≡◌, ℕ, ◌+◌, ◌-◌, ◌*◌, ◌/◌, ◌<◌, ◌≤◌, true, ◌&&◌, ltb, leb, List, length, get_or, arith}
+use Rattle.std.proofs.lemmas.List.{get_or_default}
+use Rattle.std.proofs.lemmas.Bool.Decides.{nat_tests}
 use Rattle.allocator.specs.declared.cell.Cell.{Cell}
 use Rattle.allocator.specs.declared.cell.Cell.TheVariants.{Free, Rest}
 use Rattle.allocator.specs.Maps.{FreeAt}
@@ -10,34 +11,18 @@ use Rattle.allocator.specs.Maps.{FreeAt}
 abbrev pub Room : List Cell → ℕ → ℕ → Type 0
 Room cs b n = (b + n ≤ length cs) × ((g : ℕ) → b ≤ g → g < b + n → get_or cs g Free ≡ Free)
 
-free_any : (cs : List Cell) (i : ℕ) → get_or cs i Rest ≡ Free → get_or cs i Free ≡ Free
-free_any [] i e = refl
-free_any (x ∷ cs) zero e = e
-free_any (x ∷ cs) (suc i) e = free_any cs i e
-
-pub room : (cs : List Cell) (b n : ℕ) → FreeAt cs b n → Room cs b n
-room cs b n f = (f.0, λ g lo hi. let z : b + (g - b) ≡ g = omega arith in free_any cs g (subst (λ (x : ℕ). get_or cs x Rest ≡ Free) z (f.1 (g - b) (omega arith))))
+pub room_of : (cs : List Cell) (b n : ℕ) → FreeAt cs b n → Room cs b n
+room_of cs b n f = (
+  f.0,
+  λ g lo hi.
+      let z : b + (g - b) ≡ g = omega arith in
+      cc (f.1 (g - b) (omega arith), get_or_default cs g Free Rest (omega (arith, f.0))),
+)
 
 -- the bytes of a new run
 
 pub span_in : (lo hi a n j : ℕ) → lo ≡ 16 * a → hi ≡ 16 * a + 16 * n → (leb lo j && ltb j hi) ≡ true → (a ≤ j / 16) × (j / 16 < a + n)
-span_in lo hi a n j p q e =
-    let z = and_parts (leb lo j) (ltb j hi) e in
-    let x = leb-true lo j z.0 in
-    let y = ltb-true j hi z.1 in
-    (omega arith, omega arith)
-
-leb_same : (x y z w : ℕ) → (x ≤ y → z ≤ w) → (z ≤ w → x ≤ y) → leb x y ≡ leb z w
-leb_same x y z w f g = elim (cases_Bool (leb x y)) [
-  | inl p ↦ p ∙ sym (le-leb z w (f (leb-true x y p)))
-  | inr p ↦ p ∙ sym (elim (cases_Bool (leb z w)) [
-    | inl q ↦ (let k : y < x = leb-false x y p in let l : x ≤ y = g (leb-true z w q) in absurd (let f : ⊥ = omega arith in f))
-    | inr q ↦ q
-  ])
-]
+span_in lo hi a n j p q e = grind (arith, nat_tests)
 
 pub span_same : (lo hi a n i j : ℕ) → lo ≡ 16 * a → hi ≡ 16 * a + 16 * n → i / 16 ≡ j / 16 → (leb lo i && ltb i hi) ≡ (leb lo j && ltb j hi)
-span_same lo hi a n i j p q e = ands (leb_same lo i lo j (λ h. omega arith) (λ h. omega arith)) (leb_same (suc i) hi (suc j) hi (λ h. omega arith) (λ h. omega arith))
-  where
-    ands : {a b c d : Bool} → a ≡ c → b ≡ d → (a && b) ≡ (c && d)
-    ands p q = cc
+span_same lo hi a n i j p q e = grind (arith, nat_tests)

@@ -1,5 +1,7 @@
 -- Every call, and so every history, keeps the invariant.
 use Rattle.std.proofs.Common.{◌≡◌, ℕ, ◌+◌, ◌-◌, ◌*◌, ◌/◌, ◌<◌, ◌≤◌, false, List, [], ◌∷◌, Some, None, Option, sym, refl, ap, ◌∙◌, subst, arith}
+use Rattle.std.proofs.lemmas.Bool.{both_ways}
+use Rattle.std.proofs.lemmas.Option.{same_Some, none-some}
 use lib.ListN.{length-replicate}
 use lib.Seq.{paste}
 use Rattle.allocator.specs.declared.cell.Cell.TheVariants.{Free}
@@ -8,12 +10,12 @@ use Rattle.authority.specs.Capabilities.{base_of, top_of, capability_of}
 use Rattle.authority.specs.Masks.{all_permissions}
 use Rattle.authority.specs.declared.capability.Capability.{Capability}
 use Rattle.machine.specs.Calls.{Call}
-use Rattle.machine.specs.Model.{Effect, Fixed, State, fresh_state, outcome, register_at, state_after, with_capability, with_map, with_passed, with_register}
+use Rattle.machine.specs.Model.{Effect, Fixed, State, fresh_state, outcome, register_at, state_after, with_map, with_passed, with_register}
 use Rattle.machine.specs.Rules.{derived}
 use Rattle.machine.specs.Runs.{in_runs}
 use Rattle.history.specs.Histories.{Sized, outcomes, state_after_all}
-use Rattle.history.specs.Ledgers.{Entry, Ledger, derived_entry, empty_ledger, granted, loaded, note, noted_all, slot, stored, with_entry, with_provenance}
-use Rattle.history.proofs.Base.{no_yes, none_at, some_none, some_same}
+use Rattle.history.specs.Ledgers.{Entry, Ledger, derived_entry, empty_ledger, granted, note, noted_all, slot, with_entry, with_provenance}
+use Rattle.history.proofs.Base.{none_at}
 use Rattle.history.proofs.Changes.{idle_open, inv_byte, inv_capability, inv_end, inv_free, inv_grant, inv_open, inv_pass, inv_reg, inv_shut, not_painted, whole_made}
 use Rattle.history.proofs.Invariant.{Inv, Sound}
 use Rattle.history.proofs.Laws.{derived_within, reg, reg_fresh, reg_slot, shaped_fresh, within_bounds, within_derived}
@@ -52,7 +54,7 @@ module _ (K : Fixed) (s : State) (b : Ledger) (v : Inv K s b) where
   to_register : (c r : ℕ) → c < 8 → r < 8 → (a : Capability) (e : Option Entry) → Sound s.cells b.latest b.grants a e → in_runs s.painted (base_of a / 16) ≡ false
       → Inv K (with_register s c r (Some a)) (with_entry b (slot c r) e)
   to_register c r hc hr a e o new = inv_reg K s b v c r hc hr (Some a) e λ x q.
-      subst (λ (y : Capability). Sound s.cells b.latest b.grants y e × (in_runs s.painted (base_of y / 16) ≡ false)) (some_same q) (o, new)
+      subst (λ (y : Capability). Sound s.cells b.latest b.grants y e × (in_runs s.painted (base_of y / 16) ≡ false)) (same_Some _ _ q) (o, new)
 
   at_slot : (c r : ℕ) (a : Capability) → r < 8 → register_at s c r ≡ Some a → reg s (slot c r) ≡ Some a
   at_slot c r a hr e = sym (reg_slot s c r hr) ∙ e
@@ -66,7 +68,7 @@ module _ (K : Fixed) (s : State) (b : Ledger) (v : Inv K s b) where
       let l = v.l_cells in
       let z = v.sized in
       let (w, made) = whole_made (16 * at) (16 * at + 16 * n) (omega arith) (omega arith) in
-      subst (λ (o : Option Capability). Inv K (with_register (with_map s (paste s.cells at (run_of n) n) next) c r o) (granted b c r o)) (sym made)
+      rw made
       (inv_grant K s b v c r n at next w made hc hr pos same room)
 
 pub inv_step : (K : Fixed) (s : State) (b : Ledger) → Inv K s b → {x : Call} {d : Effect} → View K s x d → Inv K (state_after s d) (note b x (outcome d))
@@ -84,18 +86,18 @@ inv_step K s b v (v_putc {c} {r} {off} {t} a a' hc hr ht e e' store caps lt al) 
     let q = at_slot K s b v c r a hr e in
     let q' = at_slot K s b v c t a' ht e' in
     let top = reg_top K s b v (slot c r) a q in
-    subst (λ (o : Option Entry). Inv K (with_capability s ((base_of a + off) / 16) a') (stored b o off (b.registers (slot c t)))) (sym (v.regs (slot c r) a q).recorded)
+    rw (v.regs (slot c r) a q).recorded
     (inv_capability K s b v ((base_of a + off) / 16) a' (b.registers (slot c t)) (omega arith) (v.regs (slot c t) a' q') (v.regs_new (slot c t) a' q'))
 inv_step K s b v (v_getc {c} {r} {off} {t} a a' hc hr ht e load caps lt al tag at new) =
     let q = at_slot K s b v c r a hr e in
     let (x, is, o) = v.mem ((base_of a + off) / 16) tag in
-    subst (λ (z : Option Entry). Inv K (with_register s c t (Some a')) (loaded b z off (slot c t))) (sym (v.regs (slot c r) a q).recorded)
+    rw (v.regs (slot c r) a q).recorded
     (to_register K s b v c t hc ht a' (b.granules ((base_of a + off) / 16))
-    (subst (λ (y : Capability). Sound s.cells b.latest b.grants y (b.granules ((base_of a + off) / 16))) (some_same (sym is ∙ at)) o) (not_painted K s b v a' new))
+    (subst (λ (y : Capability). Sound s.cells b.latest b.grants y (b.granules ((base_of a + off) / 16))) (same_Some _ _ (sym is ∙ at)) o) (not_painted K s b v a' new))
 inv_step K s b v (v_give {c} {r} {d} {t} a hc hr hd ht e) =
     let q = at_slot K s b v c r a hr e in
     to_register K s b v d t hd ht a (b.registers (slot c r)) (v.regs (slot c r) a q) (v.regs_new (slot c r) a q)
-inv_step K s b v (v_drop {c} {r} hc hr) = inv_reg K s b v c r hc hr None None λ a q. some_none (sym q)
+inv_step K s b v (v_drop {c} {r} hc hr) = inv_reg K s b v c r hc hr None None λ a q. absurd (none-some _ q)
 inv_step K s b v (v_open e) = inv_open K s b v e
 inv_step K s b v (v_pass {k} p pos e lt) = inv_pass K s b v p k e (omega arith)
 inv_step K s b v (v_end {k} p pos e le) =
@@ -114,15 +116,15 @@ inv_fresh K h = record {
   l_tags = length-replicate K.memory_granules false;
   l_cells = length-replicate K.allocator_granules Free;
   shaped = shaped_fresh;
-  regs = λ i a e. some_none (sym (sym (reg_fresh i) ∙ e));
-  mem = λ g e. no_yes (sym (sym (none_at K.memory_granules g false) ∙ e));
+  regs = λ i a e. absurd (none-some _ (sym (reg_fresh i) ∙ e));
+  mem = λ g e. absurd (both_ways _ (none_at K.memory_granules g false) e);
   waiting = λ r x. absurd x;
   painted = λ r x. absurd x;
   ends = λ r x. absurd x;
   once = tt;
   apart = λ r x. absurd x;
-  numbered = λ k g e. some_none (sym e);
+  numbered = λ k g e. absurd (none-some _ e);
   idle = λ e. refl;
   regs_new = λ i a e. refl;
-  tags_new = λ p e. idle_open (sym e);
+  tags_new = λ p e. idle_open e;
 }

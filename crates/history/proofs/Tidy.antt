@@ -1,26 +1,27 @@
 -- Free granules are clean, and no capability crosses between group and others.
 use Rattle.std.proofs.Common.{◌≡◌, ℕ, ◌+◌, ◌-◌, ◌*◌, ◌/◌, ◌<◌, ◌≤◌, Bool, true, false, cond, ◌&&◌, eqb, ltb, leb, List, get_or, set, Some, None, Option, sym, refl, ap, ◌∙◌, subst, inl, inr, arith}
+use Rattle.std.proofs.lemmas.Option.{none-some, same_Some}
 use lib.Seq.{paste}
-use Rattle.std.proofs.lemmas.Bool.{cases_Bool, cond-false, cond-true, eq-eqb, eqb-true, ne_eqb}
+use Rattle.std.proofs.lemmas.Bool.{cases_Bool, cond-false, eq-eqb, eqb-true, ne_eqb, false_from_ne_true, both_ways}
 use Rattle.allocator.specs.declared.cell.Cell.{Cell}
-use Rattle.allocator.specs.declared.cell.Cell.TheVariants.{Free, First, Rest}
+use Rattle.allocator.specs.declared.cell.Cell.TheVariants.{Free}
 use Rattle.allocator.specs.Maps.{run_of}
 use Rattle.authority.specs.Capabilities.{base_of, top_of}
-use Rattle.authority.specs.Images.{word_at}
 use Rattle.authority.specs.declared.capability.Capability.{Capability}
 use Rattle.machine.specs.Calls.{Call}
 use Rattle.machine.specs.Model.{Fixed, State, Effect, outcome, state_after, with_register, with_register_in, with_map, with_byte, with_capability, with_passed, with_ended}
 use Rattle.machine.specs.Rules.{derived}
-use Rattle.machine.specs.Runs.{in_runs, survivor}
-use Rattle.quarantine.specs.declared.run.Run.{Run}
+use Rattle.machine.specs.Runs.{in_runs}
 use Rattle.history.specs.Isolation.{Group, GivesApart}
-use Rattle.history.specs.Ledgers.{Entry, Grant, Ledger, derived_entry, granted, loaded, note, slot, stored, with_entry, with_grant, with_granule, with_provenance}
-use Rattle.history.proofs.Base.{no_yes, some_none, some_same, within, within_true}
+use Rattle.history.specs.Ledgers.{Entry, Grant, Ledger, derived_entry, note, slot, with_entry, with_grant, with_granule, with_provenance}
+use Rattle.history.proofs.Authorities.{made_numbers}
+use Rattle.history.proofs.Base.{not_cleared, within, within_true}
 use Rattle.history.proofs.Changes.{inv_pass, painted_released, painted_wiped_bytes, painted_wiped_tags, whole_made}
 use Rattle.history.proofs.Invariant.{Inv, Sound}
-use Rattle.history.proofs.Laws.{get_image, get_set, get_swept, get_taken, made_base, reg, reg_emptied, reg_in, reg_put, reg_slot, slot_row}
+use Rattle.history.proofs.Laws.{get_image, get_swept, get_taken, reg, reg_emptied, reg_in, reg_put, reg_slot, slot_row, survived}
 use Rattle.history.proofs.Live.{live_taken, sound_span}
-use Rattle.history.proofs.Rooms.{Room, room, span_in, span_same}
+use Rattle.history.proofs.Places.{get_set}
+use Rattle.history.proofs.Rooms.{Room, room_of, span_in, span_same}
 use Rattle.history.proofs.Steps.{reg_top}
 use Rattle.history.proofs.View.{View, v_no, v_grant, v_free, v_derive, v_getb, v_putb, v_putc, v_getc, v_give, v_drop, v_open, v_pass, v_end, v_shut}
 
@@ -36,14 +37,10 @@ pub record Tidy (m : Group) (s : State) (b : Ledger) : Type 0 where
   pub reg_side : (i : ℕ) (a : Capability) → reg s i ≡ Some a → Side m b.grants (b.registers i) (m (i / 8))
   pub mem_side : (g k : ℕ) (w : Grant) → get_or s.tags g false ≡ true → b.latest (16 * g) ≡ Some k → b.grants k ≡ Some w → Side m b.grants (b.granules g) (m w.to)
 
--- a tag that a change may only have cleared
-untouched : (t : Bool) {y : Bool} → cond t false y ≡ true → y ≡ true
-untouched true e = no_yes (sym e)
-untouched false e = e
-
-clear_still : (t : Bool) {y : Bool} → y ≡ false → cond t false y ≡ false
-clear_still true e = refl
-clear_still false e = e
+-- what is cleared, or was clear before
+clear_still : {X : Type 0} (t : Bool) {x y : X} → (t ≡ false → y ≡ x) → cond t x y ≡ x
+clear_still true h = refl
+clear_still false h = h refl
 
 module _ (m : Group) (K : Fixed) (s : State) (b : Ledger) (v : Inv K s b) (d : Tidy m s b) where
   -- the granule of a register's capability is taken, and belongs to the register's side
@@ -60,7 +57,7 @@ module _ (m : Group) (K : Fixed) (s : State) (b : Ledger) (v : Inv K s b) (d : T
       let u = sound_span o in
       let n = a.nonempty in
       let z = o.live.mine x (omega arith) (omega arith) in
-      let y : o.provenance ≡ k = some_same (sym z ∙ l) in
+      let y : o.provenance ≡ k = same_Some _ _ (sym z ∙ l) in
       d.reg_side i a e (record { capability = a; provenance = o.provenance }) w o.recorded (ap b.grants y ∙ q)
 
   tidy_reg : (c r : ℕ) → c < 8 → r < 8 → (o : Option Capability) (e : Option Entry) → ((a : Capability) → o ≡ Some a → Side m b.grants e (m c))
@@ -71,12 +68,9 @@ module _ (m : Group) (K : Fixed) (s : State) (b : Ledger) (v : Inv K s b) (d : T
     dated = d.dated;
     even = d.even;
     mem_side = d.mem_side;
-    reg_side = λ j a e. elim (cases_Bool (eqb j (slot c r))) [
-      | inl y ↦ subst (λ (x : Option Entry). Side m b.grants x (m (j / 8))) (sym (cond-true (eqb j (slot c r)) bo (b.registers j) y))
-          (subst (λ (x : ℕ). Side m b.grants bo (m x)) (sym (ap (λ (x : ℕ). x / 8) (eqb-true j (slot c r) y) ∙ slot_row c r hr))
-          (h a (sym (cond-true (eqb j (slot c r)) o (reg s j) y) ∙ sym (there j) ∙ e)))
-      | inr n ↦ subst (λ (x : Option Entry). Side m b.grants x (m (j / 8))) (sym (cond-false (eqb j (slot c r)) bo (b.registers j) n))
-          (d.reg_side j a (sym (cond-false (eqb j (slot c r)) o (reg s j) n) ∙ sym (there j) ∙ e))
+    reg_side = λ j a e. let q = sym (there j) ∙ e in elim (cases_Bool (eqb j (slot c r))) [
+      | inl y ↦ let z : c ≡ j / 8 = omega (arith, eqb-true j (slot c r) y) in rw y (rw z at (h a (rw y at q)))
+      | inr n ↦ rw n (d.reg_side j a (rw n at q))
     ];
   }
     where
@@ -85,15 +79,15 @@ module _ (m : Group) (K : Fixed) (s : State) (b : Ledger) (v : Inv K s b) (d : T
 
   tidy_byte : (a x : ℕ) → a < 16 * K.memory_granules → (get_or s.cells (a / 16) Free ≡ Free → ⊥) → Tidy m (with_byte s a x) b
   tidy_byte a x lt tk = record {
-    free_tags = λ g e. tag g ∙ clear_still (eqb g (a / 16)) (d.free_tags g e);
+    free_tags = λ g e. tag g ∙ clear_still (eqb g (a / 16)) (λ _. d.free_tags g e);
     free_bytes = λ i e. get_set s.bytes a i x 0 (omega (arith, v.l_bytes)) ∙ (elim (cases_Bool (eqb i a)) [
-      | inl y ↦ absurd (tk (subst (λ (j : ℕ). get_or s.cells (j / 16) Free ≡ Free) (eqb-true i a y) e))
+      | inl y ↦ absurd (tk (rw (eqb-true i a y) at e))
       | inr n ↦ cond-false (eqb i a) x (get_or s.bytes i 0) n ∙ d.free_bytes i e
     ]);
     dated = d.dated;
     even = d.even;
     reg_side = d.reg_side;
-    mem_side = λ g k w t. d.mem_side g k w (untouched (eqb g (a / 16)) (sym (tag g) ∙ t));
+    mem_side = λ g k w t. d.mem_side g k w (not_cleared _ (sym (tag g) ∙ t)).1;
   }
     where
       tag : (g : ℕ) → get_or (set s.tags (a / 16) false) g false ≡ cond (eqb g (a / 16)) false (get_or s.tags g false)
@@ -103,22 +97,21 @@ module _ (m : Group) (K : Fixed) (s : State) (b : Ledger) (v : Inv K s b) (d : T
       → ((k : ℕ) (w : Grant) → b.latest (16 * g₀) ≡ Some k → b.grants k ≡ Some w → Side m b.grants o (m w.to)) → Tidy m (with_capability s g₀ c) (with_granule b g₀ o)
   tidy_cap g₀ c o lt tk h = record {
     free_tags = λ g e. tag g ∙ (elim (cases_Bool (eqb g g₀)) [
-      | inl y ↦ absurd (tk (subst (λ (j : ℕ). get_or s.cells j Free ≡ Free) (eqb-true g g₀ y) e))
+      | inl y ↦ absurd (tk (rw (eqb-true g g₀ y) at e))
       | inr n ↦ cond-false (eqb g g₀) true (get_or s.tags g false) n ∙ d.free_tags g e
     ]);
     free_bytes = λ i e. get_image s.bytes g₀ c i (omega (arith, v.l_bytes)) ∙ (elim (cases_Bool (within (16 * g₀) 16 i)) [
       | inl y ↦ let u = within_true (16 * g₀) 16 i y in
           let z : i / 16 ≡ g₀ = omega arith in
-          absurd (tk (subst (λ (j : ℕ). get_or s.cells j Free ≡ Free) z e))
+          absurd (tk (rw z at e))
       | inr n ↦ cond-false (within (16 * g₀) 16 i) _ (get_or s.bytes i 0) n ∙ d.free_bytes i e
     ]);
     dated = d.dated;
     even = d.even;
     reg_side = d.reg_side;
     mem_side = λ g k w t l q. elim (cases_Bool (eqb g g₀)) [
-      | inl y ↦ subst (λ (x : Option Entry). Side m b.grants x (m w.to)) (sym (cond-true (eqb g g₀) o (b.granules g) y)) (h k w (ap (λ (j : ℕ). b.latest (16 * j)) (sym (eqb-true g g₀ y)) ∙ l) q)
-      | inr n ↦ subst (λ (x : Option Entry). Side m b.grants x (m w.to)) (sym (cond-false (eqb g g₀) o (b.granules g) n))
-          (d.mem_side g k w (sym (cond-false (eqb g g₀) true (get_or s.tags g false) n) ∙ sym (tag g) ∙ t) l q)
+      | inl y ↦ rw y (h k w (ap (λ (j : ℕ). b.latest (16 * j)) (sym (eqb-true g g₀ y)) ∙ l) q)
+      | inr n ↦ rw n (d.mem_side g k w (rw n at (sym (tag g) ∙ t)) l q)
     ];
   }
     where
@@ -131,26 +124,22 @@ module _ (m : Group) (K : Fixed) (s : State) (b : Ledger) (v : Inv K s b) (d : T
     free_tags = λ g e. d.free_tags g (was_free g e);
     free_bytes = λ i e. d.free_bytes i (was_free (i / 16) e);
     dated = λ i k e. (elim (cases_Bool (fresh_byte i)) [
-      | inl y ↦ let z : b.next ≡ k = some_same (sym (cond-true (fresh_byte i) (Some b.next) (b.latest i) y) ∙ e) in omega arith
-      | inr x ↦ let q = d.dated i k (sym (cond-false (fresh_byte i) (Some b.next) (b.latest i) x) ∙ e) in omega arith
+      | inl y ↦ let z : b.next ≡ k = same_Some _ _ (rw y at e) in omega arith
+      | inr x ↦ let q = d.dated i k (rw x at e) in omega arith
     ]);
     even = λ i j e. ap (λ (x : Bool). cond x (Some b.next) (b.latest i)) (span_same (base_of it) (top_of it) at n i j from to e) ∙ ap (λ (x : Option ℕ). cond (fresh_byte j) (Some b.next) x) (d.even i j e);
     reg_side = λ j a e. elim (cases_Bool (eqb j (slot c r))) [
       | inl y ↦ λ q w eq has.
-          let z = some_same (sym (cond-true (eqb j (slot c r)) (Some (record { capability = it; provenance = b.next })) (b.registers j) y) ∙ eq) in
-          let k : b.next ≡ q.provenance = ap (λ (x : Entry). x.provenance) z in
-          let u = sym (cond-true (eqb q.provenance b.next) (Some (record { to = c; whole = it })) (b.grants q.provenance) (eq-eqb q.provenance b.next (sym k))) ∙ has in
-          let t : c ≡ w.to = ap (λ (x : Grant). x.to) (some_same u) in
-          ap m (sym t ∙ sym (ap (λ (x : ℕ). x / 8) (eqb-true j (slot c r) y) ∙ slot_row c r hr))
-      | inr x ↦ let was = sym (cond-false (eqb j (slot c r)) (Some it) (reg s j) x) ∙ sym (there j) ∙ e in
-          subst (λ (o : Option Entry). Side m more o (m (j / 8))) (sym (cond-false (eqb j (slot c r)) (Some (record { capability = it; provenance = b.next })) (b.registers j) x))
-          (older (v.regs j a was) (d.reg_side j a was))
+          let k : b.next ≡ q.provenance = ap (λ (x : Entry). x.provenance) (same_Some _ _ (rw y at eq)) in
+          let t : c ≡ w.to = ap (λ (x : Grant). x.to) (same_Some _ _ (rw (eq-eqb q.provenance b.next (sym k)) at has)) in
+          ap m (omega (arith, eqb-true j (slot c r) y))
+      | inr x ↦ let was = rw x at (sym (there j) ∙ e) in rw x (older (v.regs j a was) (d.reg_side j a was))
     ];
     mem_side = λ g k w t l q. elim (cases_Bool (fresh_byte (16 * g))) [
-      | inl y ↦ let z = span_in (base_of it) (top_of it) at n (16 * g) from to y in no_yes (sym t ∙ d.free_tags g (rm.1 g (omega arith) (omega arith)))
-      | inr x ↦ let l' = sym (cond-false (fresh_byte (16 * g)) (Some b.next) (b.latest (16 * g)) x) ∙ l in
+      | inl y ↦ let z = span_in (base_of it) (top_of it) at n (16 * g) from to y in absurd (both_ways _ (d.free_tags g (rm.1 g (omega arith) (omega arith))) t)
+      | inr x ↦ let l' = rw x at l in
           let lt = d.dated (16 * g) k l' in
-          older (v.mem g t).2 (d.mem_side g k w t l' (sym (cond-false (eqb k b.next) (Some (record { to = c; whole = it })) (b.grants k) (ne_eqb k b.next (omega arith))) ∙ q))
+          older (v.mem g t).2 (d.mem_side g k w t l' (rw (ne_eqb k b.next (omega arith)) at q))
     ];
   }
     where
@@ -165,21 +154,21 @@ module _ (m : Group) (K : Fixed) (s : State) (b : Ledger) (v : Inv K s b) (d : T
 
       older : {a : Capability} {o : Option Entry} {y : Bool} → Sound s.cells b.latest b.grants a o → Side m b.grants o y → Side m more o y
       older w h q g eq has =
-          let z : w.provenance ≡ q.provenance = ap (λ (x : Entry). x.provenance) (some_same (sym w.recorded ∙ eq)) in
+          let z : w.provenance ≡ q.provenance = ap (λ (x : Entry). x.provenance) (same_Some _ _ (sym w.recorded ∙ eq)) in
           let lt = (v.numbered w.provenance _ w.live.granted).0 in
-          h q g eq (sym (cond-false (eqb q.provenance b.next) (Some (record { to = c; whole = it })) (b.grants q.provenance) (ne_eqb q.provenance b.next (omega arith))) ∙ has)
+          h q g eq (rw (ne_eqb q.provenance b.next (omega arith)) at has)
 
       was_free : (g : ℕ) → get_or (paste s.cells at (run_of n) n) g Free ≡ Free → get_or s.cells g Free ≡ Free
       was_free g e = elim (cases_Bool (within at n g)) [
         | inl y ↦ let z = within_true at n g y in rm.1 g z.0 z.1
-        | inr x ↦ sym (cond-false (within at n g) (cond (eqb g at) First Rest) (get_or s.cells g Free) x) ∙ sym (get_taken s.cells at n g pos rm.0) ∙ e
+        | inr x ↦ rw x at (sym (get_taken s.cells at n g pos rm.0) ∙ e)
       ]
 
   -- a change that only takes tags and registers, and leaves the rest
   tidy_fewer : (t : State) → t.cells ≡ s.cells → t.bytes ≡ s.bytes → ((g : ℕ) → get_or t.tags g false ≡ true → get_or s.tags g false ≡ true)
       → ((i : ℕ) (a : Capability) → reg t i ≡ Some a → reg s i ≡ Some a) → Tidy m t b
   tidy_fewer t es eb ht hr = record {
-    free_tags = λ g e. elim (cases_Bool (get_or t.tags g false)) [ inl y ↦ no_yes (sym (ht g y) ∙ d.free_tags g (ap (λ (l : List Cell). get_or l g Free) (sym es) ∙ e)) | inr n ↦ n ];
+    free_tags = λ g e. false_from_ne_true _ λ y. both_ways _ (d.free_tags g (ap (λ (l : List Cell). get_or l g Free) (sym es) ∙ e)) (ht g y);
     free_bytes = λ i e. ap (λ (l : List ℕ). get_or l i 0) eb ∙ d.free_bytes i (ap (λ (l : List Cell). get_or l (i / 16) Free) (sym es) ∙ e);
     dated = d.dated;
     even = d.even;
@@ -189,48 +178,34 @@ module _ (m : Group) (K : Fixed) (s : State) (b : Ledger) (v : Inv K s b) (d : T
 
   tidy_end : Tidy m (with_ended s) b
   tidy_end = record {
-    free_tags = λ g e. elim (cases_Bool (in_runs s.painted g)) [
-      | inl y ↦ painted_wiped_tags K s b v g ∙ cond-true _ _ _ y
-      | inr n ↦ painted_wiped_tags K s b v g ∙ cond-false _ _ _ n ∙ d.free_tags g (sym (cond-false _ _ _ n) ∙ sym (painted_released K s b v g) ∙ e)
-    ];
-    free_bytes = λ i e. elim (cases_Bool (in_runs s.painted (i / 16))) [
-      | inl y ↦ painted_wiped_bytes K s b v i ∙ cond-true _ _ _ y
-      | inr n ↦ painted_wiped_bytes K s b v i ∙ cond-false _ _ _ n ∙ d.free_bytes i (sym (cond-false _ _ _ n) ∙ sym (painted_released K s b v (i / 16)) ∙ e)
-    ];
+    free_tags = λ g e. painted_wiped_tags K s b v g ∙ clear_still (in_runs s.painted g) (λ n. d.free_tags g (rw n at (sym (painted_released K s b v g) ∙ e)));
+    free_bytes = λ i e. painted_wiped_bytes K s b v i ∙ clear_still (in_runs s.painted (i / 16)) (λ n. d.free_bytes i (rw n at (sym (painted_released K s b v (i / 16)) ∙ e)));
     dated = d.dated;
     even = d.even;
     reg_side = d.reg_side;
-    mem_side = λ g k w x. d.mem_side g k w (untouched (in_runs s.painted g) (sym (painted_wiped_tags K s b v g) ∙ x));
+    mem_side = λ g k w x. d.mem_side g k w (not_cleared _ (sym (painted_wiped_tags K s b v g) ∙ x)).1;
   }
 
   pub tidy_pass : (p k : ℕ) → Tidy m (with_passed s p k) b
   tidy_pass p k = tidy_fewer (with_passed s p k) refl refl
-      (λ g x. untouched (within p k g && in_runs s.painted (word_at s.bytes (16 * g) / 16)) (sym (get_swept s.painted s.bytes p k g s.tags) ∙ x)) (λ i a e. e)
+      (λ g x. (not_cleared _ (sym (get_swept s.painted s.bytes p k g s.tags) ∙ x)).1) (λ i a e. e)
 
 derived_side : (m : Group) (grants : ℕ → Option Grant) (o : Option Entry) (lo len p : ℕ) (y : Bool) → Side m grants o y → Side m grants (derived_entry o lo len p) y
-derived_side m grants None lo len p y h n w e has = some_none (sym e)
+derived_side m grants None lo len p y h n w e has = cc
 derived_side m grants (Some x) lo len p y h n w e has = go (derived x.capability lo len p) e
   where
     go : (q : Option Capability) → with_provenance x.provenance q ≡ Some n → m w.to ≡ y
-    go None e = some_none (sym e)
-    go (Some c) e = let k : x.provenance ≡ n.provenance = ap (λ (u : Entry). u.provenance) (some_same e) in h x w refl (ap grants k ∙ has)
-
-survived : (rs : List Run) (o : Option Capability) (a : Capability) → survivor rs o ≡ Some a → o ≡ Some a
-survived rs None a e = e
-survived rs (Some c) a e = go (in_runs rs (base_of c / 16)) e
-  where
-    go : (t : Bool) → cond t None (Some c) ≡ Some a → Some c ≡ Some a
-    go true e = some_none (sym e)
-    go false e = e
+    go None e = cc
+    go (Some c) e = let k : x.provenance ≡ n.provenance = cc in h x w refl (ap grants k ∙ has)
 
 pub tidy_step : (m : Group) (K : Fixed) (s : State) (b : Ledger) → Inv K s b → Tidy m s b → {x : Call} {d : Effect} → GivesApart m x → View K s x d
     → Tidy m (state_after s d) (note b x (outcome d))
 tidy_step m K s b v t gift v_no = t
 tidy_step m K s b v t gift (v_grant {c} {r} {n} at next hc hr pos same e) =
-    let rm = room s.cells at n (K.lawful.answered s.cells s.mark n at next pos e) in
+    let rm = room_of s.cells at n (K.lawful.answered s.cells s.mark n at next pos e) in
     let w = whole_made (16 * at) (16 * at + 16 * n) (omega arith) (omega (arith, rm.0, v.l_cells, same, v.sized)) in
-    let z = made_base _ _ _ w.0 w.1 in
-    subst (λ (o : Option Capability). Tidy m (with_register (with_map s (paste s.cells at (run_of n) n) next) c r o) (granted b c r o)) (sym w.1)
+    let z = made_numbers _ _ _ w.0 w.1 in
+    rw w.1
     (tidy_grant m K s b v t c r n at next hc hr pos rm w.0 z.0 z.1)
 tidy_step m K s b v t gift (v_free a hc hr e own al whole w) = tidy_fewer m K s b v t _ refl refl (λ g x. x) (λ i a e. e)
 tidy_step m K s b v t gift (v_derive {c} {r} {t = u} {lo} {len} {p} a n hc hr ht e q) = tidy_reg m K s b v t c r hc hr (Some n) _ λ _ _.
@@ -243,7 +218,7 @@ tidy_step m K s b v t gift (v_putb {c} {r} {off} {v = x} a hc hr e al lt) =
 tidy_step m K s b v t gift (v_putc {c} {r} {off} {t = u} a a' hc hr ht e e' al al' lt ev) =
     let e₀ = sym (reg_slot s c r hr) ∙ e in
     let o = v.regs (slot c r) a e₀ in
-    subst (λ (q : Option Entry). Tidy m (with_capability s ((base_of a + off) / 16) a') (stored b q off (b.registers (slot c u)))) (sym o.recorded)
+    rw o.recorded
     (tidy_cap m K s b v t ((base_of a + off) / 16) a' (b.registers (slot c u)) (omega (arith, reg_top K s b v (slot c r) a e₀)) (reg_taken m K s b v t (slot c r) a e₀ (base_of a + off) (omega arith) (omega arith)) λ n w l q.
     subst (λ (y : Bool). Side m b.grants (b.registers (slot c u)) y)
     (ap m (slot_row c u ht ∙ sym (slot_row c r hr)) ∙ sym (reg_owner m K s b v t (slot c r) a e₀ (16 * ((base_of a + off) / 16)) (omega arith) (omega arith) n w l q))
@@ -253,15 +228,15 @@ tidy_step m K s b v t gift (v_getc {c} {r} {off} {t = u} a a' hc hr ht e al al' 
     let o = v.regs (slot c r) a e₀ in
     let sp = sound_span o in
     let l = o.live.mine (16 * ((base_of a + off) / 16)) (omega arith) (omega arith) in
-    subst (λ (q : Option Entry). Tidy m (with_register s c u (Some a')) (loaded b q off (slot c u))) (sym o.recorded)
+    rw o.recorded
     (tidy_reg m K s b v t c u hc ht (Some a') (b.granules ((base_of a + off) / 16)) λ _ _.
     subst (λ (y : Bool). Side m b.grants (b.granules ((base_of a + off) / 16)) y)
     (reg_owner m K s b v t (slot c r) a e₀ (16 * ((base_of a + off) / 16)) (omega arith) (omega arith) o.provenance _ l o.live.granted ∙ ap m (slot_row c r hr))
     (t.mem_side ((base_of a + off) / 16) o.provenance _ tag l o.live.granted))
 tidy_step m K s b v t gift (v_give {c} {r} {d} {t = u} a hc hr hd ht e) = tidy_reg m K s b v t d u hd ht (Some a) _ λ _ _.
-    subst (λ (y : Bool). Side m b.grants (b.registers (slot c r)) y) (ap m (slot_row c r hr) ∙ gift) (t.reg_side (slot c r) a (sym (reg_slot s c r hr) ∙ e))
-tidy_step m K s b v t gift (v_drop {c} {r} hc hr) = tidy_reg m K s b v t c r hc hr None None λ a q. some_none (sym q)
-tidy_step m K s b v t gift (v_open e) = tidy_fewer m K s b v t _ refl refl (λ g x. x) (λ i a q. survived s.waiting (reg s i) a (sym (reg_emptied s.waiting s.registers i) ∙ q))
+    rw (slot_row c r hr, gift) at (t.reg_side (slot c r) a (sym (reg_slot s c r hr) ∙ e))
+tidy_step m K s b v t gift (v_drop {c} {r} hc hr) = tidy_reg m K s b v t c r hc hr None None λ a q. absurd (none-some _ q)
+tidy_step m K s b v t gift (v_open e) = tidy_fewer m K s b v t _ refl refl (λ g x. x) (λ i a q. (survived s.waiting (reg s i) a (sym (reg_emptied s.waiting s.registers i) ∙ q)).0)
 tidy_step m K s b v t gift (v_pass {k} p pos e lt) = tidy_pass m K s b v t p k
 tidy_step m K s b v t gift (v_end {k} p pos e le) =
     let h = (v.tags_new p e).0 in

@@ -1,7 +1,8 @@
 -- What each call comes to: a denial, or a change under its conditions.
-use Rattle.std.proofs.Common.{◌≡◌, ℕ, ◌+◌, ◌-◌, ◌*◌, ◌/◌, ◌%◌, ◌<◌, ◌≤◌, Bool, true, false, cond, ◌&&◌, eqb, ltb, leb, length, get_or, Some, None, Ok, Err, Option, Result, sym, refl, ap, subst}
+use Rattle.std.proofs.Common.{◌≡◌, ℕ, ◌+◌, ◌-◌, ◌*◌, ◌/◌, ◌%◌, ◌<◌, ◌≤◌, Bool, true, false, cond, ◌&&◌, eqb, ltb, leb, length, get_or, Some, None, Ok, Err, Option, Result, sym, refl, ap, subst, arith}
 use lib.Seq.{paste}
-use Rattle.std.proofs.lemmas.Bool.{and_parts, eqb-true, leb-false, leb-true, ltb-true, not-true}
+use Rattle.std.proofs.lemmas.Bool.Decides.{nat_tests}
+use Rattle.std.proofs.lemmas.Bool.{and_parts, eqb-true, leb-false, leb-true, ltb-true, not-true, cond_both}
 use Rattle.allocator.specs.Allocators.{Allocation, allocating, denied_by, placed}
 use Rattle.allocator.specs.declared.fault.AllocatorFault.TheVariants as A
 use Rattle.allocator.specs.Maps.{run_length, run_of, taken_in}
@@ -20,10 +21,9 @@ use Rattle.machine.specs.Model.{Fixed, State, Effect, denied, accepted, register
 use Rattle.machine.specs.Rules.{perform, unless, held, vacant, permitted, by_memory, at_granule, granted, narrowed, loaded, derived, derived_with, is_revoked, run_under, open_rule, stepped, shut_rule, is_register, is_operand}
 use Rattle.machine.specs.Runs.{begins_at}
 use Rattle.machine.specs.declared.fault.MachineFault.{MachineFault}
-use Rattle.machine.specs.declared.fault.MachineFault.TheVariants.{Align, Bounds, NoCap, Perm}
+use Rattle.machine.specs.declared.fault.MachineFault.TheVariants.{NoCap, Perm}
 use Rattle.quarantine.specs.declared.sweep.Sweep.{Sweep}
 use Rattle.quarantine.specs.declared.sweep.Sweep.TheVariants.{Idle, Open}
-use Rattle.history.proofs.Base.{err_ok, ok_same}
 use Rattle.history.proofs.Laws.{capability_at}
 
 pub data View (K : Fixed) (s : State) : Call → Effect → Type 0 where
@@ -75,27 +75,13 @@ module _ {K : Fixed} {s : State} {x : Call} where
   on_granule (Err f) h = v_no
   on_granule (Ok g) h = h g refl
 
-  on_cond : (t : Bool) {d e : Effect} → (t ≡ true → View K s x d) → (t ≡ false → View K s x e) → View K s x (cond t d e)
-  on_cond true h k = h refl
-  on_cond false h k = k refl
-
 -- the granule of an access
 pub granule_is : (a : Capability) (off g : ℕ) → granule_answer a off ≡ Ok g → (off + 16 ≤ length_of a) × ((base_of a + off) % 16 ≡ 0) × (g ≡ (base_of a + off) / 16)
-granule_is a off g e = go (leb (off + 16) (length_of a)) (eqb ((base_of a + off) % 16) 0) refl refl e
-  where
-    go : (t u : Bool) → leb (off + 16) (length_of a) ≡ t → eqb ((base_of a + off) % 16) 0 ≡ u
-        → cond t (cond u (Ok ((base_of a + off) / 16)) (Err Align)) (Err Bounds) ≡ Ok g → (off + 16 ≤ length_of a) × ((base_of a + off) % 16 ≡ 0) × (g ≡ (base_of a + off) / 16)
-    go true true p q r = (leb-true _ _ p, eqb-true _ _ q, sym (ok_same r))
-    go true false p q r = err_ok r
-    go false u p q r = err_ok r
+granule_is a off g e = grind (arith, nat_tests)
 
 module _ (K : Fixed) (s : State) (c r n : ℕ) (hc : c < 8) (hr : r < 8) (pos : 0 < n) (same : K.memory_granules ≡ K.allocator_granules) where
   abbrev Comes : Allocation → Type 0
   Comes al = View K s (Call.Grant c r n) (granted s c r n al al.answer)
-
-  either : (t : Bool) (d e : Allocation) → Comes d → Comes e → Comes (cond t d e)
-  either true d e h k = h
-  either false d e h k = k
 
   at_place : (o : Option (ℕ × ℕ)) → K.place s.cells s.mark n ≡ o → Comes (placed s.cells s.mark n o)
   at_place None e = v_no
@@ -106,12 +92,18 @@ module _ (K : Fixed) (s : State) (c r n : ℕ) (hc : c < 8) (hr : r < 8) (pos : 
       let cs = s.cells in
       let m = s.mark in
       let o = K.place cs m n in
-      either (eqb n 0) (denied_by cs m A.BadNum) (cond (ltb K.most (taken_in cs + n)) (denied_by cs m A.Allowance) (placed cs m n o)) v_no
-      (either (ltb K.most (taken_in cs + n)) (denied_by cs m A.Allowance) (placed cs m n o) v_no (at_place o refl))
+      cond_both (eqb n 0) (denied_by cs m A.BadNum) (cond (ltb K.most (taken_in cs + n)) (denied_by cs m A.Allowance) (placed cs m n o)) Comes (λ _. v_no)
+      (λ _. cond_both (ltb K.most (taken_in cs + n)) (denied_by cs m A.Allowance) (placed cs m n o) Comes (λ _. v_no) (λ _. at_place o refl))
 
 -- what the ranges of operands tell
-register_is : (c r : ℕ) → is_register c r ≡ true → (c < 8) × (r < 8)
-register_is c r e = let p = and_parts (ltb c 8) (ltb r 8) e in (ltb-true c 8 p.0, ltb-true r 8 p.1)
+pub register_is : (c r : ℕ) → is_register c r ≡ true → (c < 8) × (r < 8)
+register_is c r e = grind (arith, nat_tests)
+
+pub registers_are : (c r d t : ℕ) (x : Bool) → (is_register c r && (is_register d t && x)) ≡ true → (c < 8) × (r < 8) × (d < 8) × (t < 8)
+registers_are c r d t x e = grind (arith, nat_tests)
+
+pub granting_is : (c r n : ℕ) → (is_register c r && (is_operand n && ltb 0 n)) ≡ true → (c < 8) × (r < 8) × (0 < n)
+granting_is c r n e = grind (arith, nat_tests)
 
 derived_is : (K : Fixed) (s : State) (c r t lo len p : ℕ) (a : Capability) → c < 8 → r < 8 → t < 8 → register_at s c t ≡ Some a → (o : Option Capability) → derived a lo len p ≡ o
     → View K s (Call.Derive c r t lo len p) (narrowed s c r o)
@@ -120,10 +112,8 @@ derived_is K s c r t lo len p a hc hr ht e (Some d) q = v_derive a d hc hr ht e 
 
 pub view : (K : Fixed) (s : State) (x : Call) → View K s x (perform K s x)
 view K s (Call.Grant c r n) = on_unless _ _ λ num. on_unless _ _ λ same.
-    let p = and_parts (is_register c r) (is_operand n && ltb 0 n) num in
-    let q = register_is c r p.0 in
-    let z = and_parts (is_operand n) (ltb 0 n) p.1 in
-    allocated K s c r n q.0 q.1 (ltb-true 0 n z.1) (eqb-true _ _ same)
+    let q = granting_is c r n num in
+    allocated K s c r n q.0 q.1 q.2 (eqb-true _ _ same)
 view K s (Call.Free c r) = on_unless _ _ λ num. on_held _ λ a e. on_unless _ _ λ own. on_unless _ _ λ whole. on_unless _ _ λ waits. on_unless _ _ λ full.
     let q = register_is c r num in
     let w = and_parts (eqb (base_of a % 16) 0) _ whole in
@@ -134,11 +124,8 @@ view K s (Call.Derive c r t lo len n) = on_unless _ _ λ num. go (permissions_fr
         → View K s (Call.Derive c r t lo len n) (permitted o λ p. held (register_at s c t) λ a. narrowed s c r (derived_with a lo len (Some p)))
     go None q num = v_no
     go (Some p) q num = on_held _ λ a e.
-        let x = and_parts (is_register c r) (is_register c t && (is_operand lo && is_operand len)) num in
-        let y = and_parts (is_register c t) (is_operand lo && is_operand len) x.1 in
-        let u = register_is c r x.0 in
-        let w = register_is c t y.0 in
-        derived_is K s c r t lo len n a u.0 u.1 w.1 e _ (ap (derived_with a lo len) q)
+        let q' = registers_are c r c t (is_operand lo && is_operand len) num in
+        derived_is K s c r t lo len n a q'.0 q'.1 q'.3 e _ (ap (derived_with a lo len) q)
 view K s (Call.Getb c r off) = on_unless _ _ λ num. on_held _ λ a e. on_unless _ _ λ perm. on_unless _ _ λ low.
     let q = register_is c r (and_parts (is_register c r) (is_operand off) num).0 in
     go a (ltb (base_of a + off) (length s.bytes)) (v_getb a q.0 q.1 e perm (ltb-true off (length_of a) low))
@@ -151,20 +138,16 @@ view K s (Call.Putb c r off v) = on_unless _ _ λ num. on_held _ λ a e. on_unle
     let q = register_is c r (and_parts (is_register c r) (is_operand off && leb v 255) num).0 in
     v_putb a q.0 q.1 e perm (ltb-true off (length_of a) low)
 view K s (Call.Putc c r off t) = on_unless _ _ λ num. on_held _ λ a e. on_held _ λ b e'. on_unless _ _ λ perm. on_granule _ λ g at. on_memory _ λ y z.
-    let x = and_parts (is_register c r) (is_register c t && is_operand off) num in
-    let w = register_is c t (and_parts (is_register c t) (is_operand off) x.1).0 in
-    let q = register_is c r x.0 in
+    let q = registers_are c r c t (is_operand off) num in
     let p = and_parts (allows (permissions_of a) P.Store) (allows (permissions_of a) P.Capabilities) perm in
     let h = granule_is a off g at in
-    subst (λ (i : ℕ). View K s (Call.Putc c r off t) (accepted 0 (with_capability s i b))) (sym h.2) (v_putc a b q.0 q.1 w.1 e e' p.0 p.1 h.0 h.1)
+    subst (λ (i : ℕ). View K s (Call.Putc c r off t) (accepted 0 (with_capability s i b))) (sym h.2) (v_putc a b q.0 q.1 q.3 e e' p.0 p.1 h.0 h.1)
 view K s (Call.Getc c r off t) = on_unless _ _ λ num. on_held _ λ a e. on_unless _ _ λ perm. on_granule _ λ g at.
-    let x = and_parts (is_register c r) (is_register c t && is_operand off) num in
-    let w = register_is c t (and_parts (is_register c t) (is_operand off) x.1).0 in
-    let q = register_is c r x.0 in
+    let q = registers_are c r c t (is_operand off) num in
     let p = and_parts (allows (permissions_of a) P.Load) (allows (permissions_of a) P.Capabilities) perm in
     let h = granule_is a off g at in
     subst (λ (i : ℕ). View K s (Call.Getc c r off t) (by_memory (granule_read s.bytes s.tags i) λ x. unless x.tagged NoCap (loaded s c t (capability_of x.numbers.base x.numbers.top x.numbers.permissions)))) (sym h.2)
-    (there (base_of a + off) (ltb ((base_of a + off) / 16) (length s.tags)) (λ b tag cap new. v_getc a b q.0 q.1 w.1 e p.0 p.1 h.0 h.1 tag cap new))
+    (there (base_of a + off) (ltb ((base_of a + off) / 16) (length s.tags)) (λ b tag cap new. v_getc a b q.0 q.1 q.3 e p.0 p.1 h.0 h.1 tag cap new))
   where
     take : (i : ℕ) (o : Option Capability) → capability_at s.bytes (i / 16) ≡ o
         → ((b : Capability) → capability_at s.bytes (i / 16) ≡ Some b → is_revoked s.sweep s.painted b ≡ false → View K s (Call.Getc c r off t) (accepted 0 (with_register s c t (Some b))))
@@ -194,7 +177,7 @@ view K s (Call.Step k) = on_unless _ _ λ num. go s.sweep refl (ltb-true 0 k (an
   where
     go : (w : Sweep) → s.sweep ≡ w → 0 < k → View K s (Call.Step k) (stepped K.memory_granules s k w)
     go Idle e h = v_no
-    go (Open p) e h = on_cond (leb K.memory_granules (p + k)) (λ t. v_end p h e (leb-true _ _ t)) (λ t. v_pass p h e (leb-false _ _ t))
+    go (Open p) e h = cond_both (leb K.memory_granules (p + k)) _ _ (View K s (Call.Step k)) (λ t. v_end p h e (leb-true _ _ t)) (λ t. v_pass p h e (leb-false _ _ t))
 view K s Call.Shut = go s.sweep refl
   where
     go : (w : Sweep) → s.sweep ≡ w → View K s Call.Shut (shut_rule s w)
