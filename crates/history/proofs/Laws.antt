@@ -2,8 +2,8 @@
 use Rattle.std.proofs.Common.{◌≡◌, ℕ, zero, suc, ◌+◌, ◌-◌, ◌*◌, ◌/◌, ◌%◌, ◌<◌, ◌≤◌, Bool, true, false, cond, ◌&&◌, ◌||◌, eqb, ltb, ◌≢◌, List, [], ◌∷◌, map, length, get_or, drop, set, replicate, is_ok, Some, None, Option, sym, refl, ap, ◌∙◌, inl, inr, arith, rules}
 use lib.Seq.{paste}
 use Rattle.std.proofs.lemmas.List.Edits.{length-paste}
-use Rattle.std.proofs.lemmas.List.{get_or_default, get_or-drop, get_or_past, get_or-replicate, get_or-set_other, get_or-set_same, length-map, length-set, places}
-use Rattle.std.proofs.lemmas.Bool.{cases_eq, cases_lt, cond-false, cond-true, lt-ltb, ne_eqb, or_right, false_from_ne_true, cases_Bool, cond_both}
+use Rattle.std.proofs.lemmas.List.{get_or_default, get_or-drop, get_or_past, get_or-replicate, get_or-set_other, length-map, length-set, places}
+use Rattle.std.proofs.lemmas.Bool.{cases_lt, cond-false, cond-true, lt-ltb, or_right, false_from_ne_true, cases_Bool, cond_both, eqb-true}
 use Rattle.std.proofs.lemmas.Bool.Decides.{nat_tests}
 use Rattle.allocator.specs.Allocators.{Allocation, releasing}
 use Rattle.allocator.specs.declared.cell.Cell.{Cell}
@@ -55,27 +55,16 @@ row_length rs c sh h = let l = sh.rows in
     rw (get_or_default rs.compartments c empty_compartment (record { registers = [] }) (omega arith)) (sh.columns c h)
 
 pub reg_put : (rs : Registers) (c r j : ℕ) (o : Option Capability) → Shaped rs → c < 8 → r < 8 → reg_in (with_register_in rs c r o) j ≡ cond (eqb j (slot c r)) o (reg_in rs j)
-reg_put rs c r j o sh hc hr = elim (cases_eq (j / 8) c) [
-  | inl e ↦
-      ap (λ (x : Compartment). get_or x.registers (j % 8) None) (ap (λ (k : ℕ). get_or (set cs c new) k empty_compartment) e ∙ get_or-set_same cs c new empty_compartment (omega (arith, sh.rows)))
-      ∙ (get_set row r (j % 8) o None (omega (arith, row_length rs c sh hc))
-      ∙ (λ i. cond (same e i) o (get_or (get_or cs (sym e i) empty_compartment).registers (j % 8) None)))
-  | inr n ↦
-      ap (λ (x : Compartment). get_or x.registers (j % 8) None) (get_or-set_other cs c (j / 8) new empty_compartment n)
-      ∙ sym (cond-false (eqb j (slot c r)) _ _ (ne_eqb j (slot c r) (λ q. n (omega arith))))
-]
+reg_put rs c r j o sh hc hr = rw (get_set rs.compartments c (j / 8) (record { registers = set row r o }) empty_compartment (omega (arith, sh.rows))) (elim (cases_Bool (eqb (j / 8) c)) [
+  | inl y ↦
+      let e : j / 8 ≡ c = eqb-true (j / 8) c y in
+      let p = get_set row r (j % 8) o None (omega (arith, row_length rs c sh hc)) in
+      rw y (grind (arith, nat_tests, p))
+  | inr n ↦ rw n (grind (arith, nat_tests))
+])
   where
-    cs : List Compartment
-    cs = rs.compartments
-
     row : List (Option Capability)
-    row = (get_or cs c empty_compartment).registers
-
-    new : Compartment
-    new = record { registers = set row r o }
-
-    same : j / 8 ≡ c → eqb (j % 8) r ≡ eqb j (slot c r)
-    same e = grind (arith, nat_tests)
+    row = (get_or rs.compartments c empty_compartment).registers
 
 pub shaped_put : (rs : Registers) (c r : ℕ) (o : Option Capability) → Shaped rs → c < 8 → r < 8 → Shaped (with_register_in rs c r o)
 shaped_put rs c r o sh hc hr = record {
