@@ -1,6 +1,6 @@
 -- Two machines that differ in the group's part alone, and a call that is struck out on one side.
-use Rattle.std.proofs.Common.{◌≡◌, ℕ, ◌+◌, ◌-◌, ◌*◌, ◌/◌, ◌<◌, ◌≤◌, true, false, List, get_or, Some, Option, sym, ap, ◌∙◌, inl, inr, arith}
-use Rattle.std.proofs.lemmas.Bool.{cases_Bool, cond-false, ne_eqb, both_ways, false≢true}
+use Rattle.std.proofs.Common.{◌≡◌, ℕ, ◌+◌, ◌-◌, ◌*◌, ◌/◌, ◌<◌, ◌≤◌, true, false, List, get_or, Some, Option, sym, ap, ◌∙◌, arith}
+use Rattle.std.proofs.lemmas.Bool.{ne_eqb, both_ways, false≢true, false_from_ne_true}
 use Rattle.allocator.specs.declared.cell.Cell.{Cell}
 use Rattle.authority.specs.Capabilities.{base_of, top_of}
 use Rattle.authority.specs.declared.capability.Capability.{Capability}
@@ -75,10 +75,11 @@ module _ (m : Group) (K : Fixed) (s t : State) (b c : Ledger) (v : Inv K s b) (d
   left_cap i a e y g n en lo hi = record {
     same = o.same;
     registers = o.registers;
-    bytes = λ j u. get_image s.bytes g n j (omega (arith, v.l_bytes, reg_top K s b v i a e)) ∙ (elim (cases_Bool (within (16 * g) 16 j)) [
-      | inl q ↦ let z = within_true (16 * g) 16 j q in absurd (apart_from i a e y j (omega arith) (omega arith) u)
-      | inr q ↦ cond-false (within (16 * g) 16 j) _ (get_or s.bytes j 0) q ∙ o.bytes j u
-    ]);
+    bytes = λ j u. rw (
+      get_image s.bytes g n j (omega (arith, v.l_bytes, reg_top K s b v i a e)),
+      false_from_ne_true (within (16 * g) 16 j) (λ q.
+          let z = within_true (16 * g) 16 j q in apart_from i a e y j (omega arith) (omega arith) u),
+    ) (o.bytes j u);
     tags = λ j u. rw (get_set s.tags g (j / 16) true false (omega (arith, v.l_tags, reg_top K s b v i a e)), ne_eqb (j / 16) g (λ q. apart_from i a e y j (omega arith) (omega arith) u)) (o.tags j u);
   }
 
