@@ -1,11 +1,11 @@
 -- The same change on both machines.
-use Rattle.std.proofs.Common.{◌≡◌, ℕ, suc, ◌+◌, ◌-◌, ◌*◌, ◌/◌, ◌<◌, ◌≤◌, Bool, true, false, cond, ◌&&◌, eqb, ltb, leb, [], ◌∷◌, ◌++◌, get_or, Some, Option, sym, ap, ◌∙◌, inl, inr, arith}
+use Rattle.std.proofs.Common.{◌≡◌, ℕ, suc, ◌+◌, ◌*◌, ◌/◌, ◌<◌, ◌≤◌, Bool, true, false, cond, ◌&&◌, ltb, leb, [], ◌∷◌, ◌++◌, get_or, Some, Option, sym, ◌∙◌, inl, inr, arith}
 use lib.Seq.{paste}
 use Rattle.std.proofs.lemmas.Bool.{cases_Bool, ne_eqb}
 use Rattle.allocator.specs.declared.cell.Cell.TheVariants.{Free}
 use Rattle.allocator.specs.Maps.{run_of}
 use Rattle.authority.specs.Capabilities.{base_of, top_of}
-use Rattle.authority.specs.Images.{image_of, word_at}
+use Rattle.authority.specs.Images.{word_at}
 use Rattle.authority.specs.declared.capability.Capability.{Capability}
 use Rattle.memory.specs.Memories.{granule_at}
 use Rattle.machine.specs.Model.{Fixed, State, with_register, with_map, with_byte, with_capability, with_waiting, with_painted, with_passed, with_ended, with_shut}
@@ -29,23 +29,23 @@ module _ (m : Group) (K : Fixed) (s t : State) (b c : Ledger) (v : Inv K s b) (v
     same = o.same;
     bytes = o.bytes;
     tags = o.tags;
-    registers = λ j h. reg_put s.registers n r j x v.shaped hn hr ∙ ap (λ (y : Option Capability). cond (eqb j (slot n r)) x y) (o.registers j h) ∙ sym (reg_put t.registers n r j x v'.shaped hn hr);
+    registers = λ j h. rw (reg_put s.registers n r j x v.shaped hn hr, reg_put t.registers n r j x v'.shaped hn hr, o.registers j h);
   }
 
   pub core_byte : (a x : ℕ) → a < 16 * K.memory_granules → Core m (with_byte s a x) (with_byte t a x) b c
   core_byte a x lt = record {
     same = o.same;
     registers = o.registers;
-    bytes = λ j u. get_set s.bytes a j x 0 (omega (arith, v.l_bytes)) ∙ ap (λ (n : ℕ). cond (eqb j a) x n) (o.bytes j u) ∙ sym (get_set t.bytes a j x 0 (omega (arith, v'.l_bytes)));
-    tags = λ j u. get_set s.tags (a / 16) (j / 16) false false (omega (arith, v.l_tags)) ∙ ap (λ (n : Bool). cond (eqb (j / 16) (a / 16)) false n) (o.tags j u) ∙ sym (get_set t.tags (a / 16) (j / 16) false false (omega (arith, v'.l_tags)));
+    bytes = λ j u. rw (get_set s.bytes a j x 0 (omega (arith, v.l_bytes)), get_set t.bytes a j x 0 (omega (arith, v'.l_bytes)), o.bytes j u);
+    tags = λ j u. rw (get_set s.tags (a / 16) (j / 16) false false (omega (arith, v.l_tags)), get_set t.tags (a / 16) (j / 16) false false (omega (arith, v'.l_tags)), o.tags j u);
   }
 
   pub core_cap : (g : ℕ) (x : Capability) (e e' : Option Entry) → g < K.memory_granules → Core m (with_capability s g x) (with_capability t g x) (with_granule b g e) (with_granule c g e')
   core_cap g x e e' lt = record {
     same = o.same;
     registers = o.registers;
-    bytes = λ j u. get_image s.bytes g x j (omega (arith, v.l_bytes)) ∙ ap (λ (n : ℕ). cond (within (16 * g) 16 j) (get_or (image_of x) (j - 16 * g) 0) n) (o.bytes j u) ∙ sym (get_image t.bytes g x j (omega (arith, v'.l_bytes)));
-    tags = λ j u. get_set s.tags g (j / 16) true false (omega (arith, v.l_tags)) ∙ ap (λ (n : Bool). cond (eqb (j / 16) g) true n) (o.tags j u) ∙ sym (get_set t.tags g (j / 16) true false (omega (arith, v'.l_tags)));
+    bytes = λ j u. rw (get_image s.bytes g x j (omega (arith, v.l_bytes)), get_image t.bytes g x j (omega (arith, v'.l_bytes)), o.bytes j u);
+    tags = λ j u. rw (get_set s.tags g (j / 16) true false (omega (arith, v.l_tags)), get_set t.tags g (j / 16) true false (omega (arith, v'.l_tags)), o.tags j u);
   }
 
   pub core_wait : (x y : Run) → x ≡ y → Core m (with_waiting s x) (with_waiting t y) b c
@@ -119,7 +119,7 @@ module _ (m : Group) (K : Fixed) (s t : State) (b c : Ledger) (v : Inv K s b) (v
       cells = paste (o.same i).cells at (run_of n) n;
       mark = next;
     };
-    registers = λ j h. reg_put s.registers a r j (Some it) v.shaped ha hr ∙ ap (λ (x : Option Capability). cond (eqb j (slot a r)) (Some it) x) (o.registers j h) ∙ sym (reg_put t.registers a r j (Some it) v'.shaped ha hr);
+    registers = λ j h. rw (reg_put s.registers a r j (Some it) v.shaped ha hr, reg_put t.registers a r j (Some it) v'.shaped ha hr, o.registers j h);
     bytes = λ j u. elim (cases_Bool (fresh_byte j)) [
       | inl y ↦ let f = free_at j y in d.free_bytes j f ∙ sym (d'.free_bytes j ((λ i. get_or (sym o.same i).cells (j / 16) Free) ∙ f))
       | inr x ↦ o.bytes j (older j x u)

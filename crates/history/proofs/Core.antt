@@ -1,6 +1,6 @@
 -- Two machines that differ in the group's part alone, and a call that is struck out on one side.
-use Rattle.std.proofs.Common.{◌≡◌, ℕ, ◌+◌, ◌-◌, ◌*◌, ◌/◌, ◌<◌, ◌≤◌, true, false, eqb, List, get_or, Some, Option, sym, ap, ◌∙◌, inl, inr, arith}
-use Rattle.std.proofs.lemmas.Bool.{cases_Bool, cond-false, ne_eqb, both_ways, false≢true}
+use Rattle.std.proofs.Common.{◌≡◌, ℕ, ◌+◌, ◌-◌, ◌*◌, ◌/◌, ◌<◌, ◌≤◌, true, false, List, get_or, Some, Option, sym, ap, ◌∙◌, arith}
+use Rattle.std.proofs.lemmas.Bool.{ne_eqb, both_ways, false≢true, false_from_ne_true}
 use Rattle.allocator.specs.declared.cell.Cell.{Cell}
 use Rattle.authority.specs.Capabilities.{base_of, top_of}
 use Rattle.authority.specs.declared.capability.Capability.{Capability}
@@ -55,8 +55,7 @@ module _ (m : Group) (K : Fixed) (s t : State) (b c : Ledger) (v : Inv K s b) (d
     same = o.same;
     bytes = o.bytes;
     tags = o.tags;
-    registers = λ j h. reg_put s.registers n r j x v.shaped hn hr
-        ∙ cond-false (eqb j (slot n r)) x (reg s j) (ne_eqb j (slot n r) (λ q. both_ways _ (ap m (sym (slot_row n r hr) ∙ ap (λ (k : ℕ). k / 8) (sym q)) ∙ h) y)) ∙ o.registers j h;
+    registers = λ j h. rw (reg_put s.registers n r j x v.shaped hn hr, ne_eqb j (slot n r) (λ q. both_ways _ (ap m (sym (slot_row n r hr) ∙ ap (λ (k : ℕ). k / 8) (sym q)) ∙ h) y)) (o.registers j h);
   }
 
   -- a byte of the group's is none of the others'
@@ -67,10 +66,8 @@ module _ (m : Group) (K : Fixed) (s t : State) (b c : Ledger) (v : Inv K s b) (d
   left_byte i a e y x n lo hi = record {
     same = o.same;
     registers = o.registers;
-    bytes = λ j u. get_set s.bytes x j n 0 (omega (arith, v.l_bytes, reg_top K s b v i a e))
-        ∙ cond-false (eqb j x) n (get_or s.bytes j 0) (ne_eqb j x (λ q. apart_from i a e y j (omega arith) (omega arith) u)) ∙ o.bytes j u;
-    tags = λ j u. get_set s.tags (x / 16) (j / 16) false false (omega (arith, v.l_tags, reg_top K s b v i a e))
-        ∙ cond-false (eqb (j / 16) (x / 16)) false (get_or s.tags (j / 16) false) (ne_eqb (j / 16) (x / 16) (λ q. apart_from i a e y j (omega arith) (omega arith) u)) ∙ o.tags j u;
+    bytes = λ j u. rw (get_set s.bytes x j n 0 (omega (arith, v.l_bytes, reg_top K s b v i a e)), ne_eqb j x (λ q. apart_from i a e y j (omega arith) (omega arith) u)) (o.bytes j u);
+    tags = λ j u. rw (get_set s.tags (x / 16) (j / 16) false false (omega (arith, v.l_tags, reg_top K s b v i a e)), ne_eqb (j / 16) (x / 16) (λ q. apart_from i a e y j (omega arith) (omega arith) u)) (o.tags j u);
   }
 
   left_cap : (i : ℕ) (a : Capability) → reg s i ≡ Some a → m (i / 8) ≡ true → (g : ℕ) (n : Capability) (e : Option Entry) → base_of a ≤ 16 * g → 16 * g + 16 ≤ top_of a
@@ -78,12 +75,12 @@ module _ (m : Group) (K : Fixed) (s t : State) (b c : Ledger) (v : Inv K s b) (d
   left_cap i a e y g n en lo hi = record {
     same = o.same;
     registers = o.registers;
-    bytes = λ j u. get_image s.bytes g n j (omega (arith, v.l_bytes, reg_top K s b v i a e)) ∙ (elim (cases_Bool (within (16 * g) 16 j)) [
-      | inl q ↦ let z = within_true (16 * g) 16 j q in absurd (apart_from i a e y j (omega arith) (omega arith) u)
-      | inr q ↦ cond-false (within (16 * g) 16 j) _ (get_or s.bytes j 0) q ∙ o.bytes j u
-    ]);
-    tags = λ j u. get_set s.tags g (j / 16) true false (omega (arith, v.l_tags, reg_top K s b v i a e))
-        ∙ cond-false (eqb (j / 16) g) true (get_or s.tags (j / 16) false) (ne_eqb (j / 16) g (λ q. apart_from i a e y j (omega arith) (omega arith) u)) ∙ o.tags j u;
+    bytes = λ j u. rw (
+      get_image s.bytes g n j (omega (arith, v.l_bytes, reg_top K s b v i a e)),
+      false_from_ne_true (within (16 * g) 16 j) (λ q.
+          let z = within_true (16 * g) 16 j q in apart_from i a e y j (omega arith) (omega arith) u),
+    ) (o.bytes j u);
+    tags = λ j u. rw (get_set s.tags g (j / 16) true false (omega (arith, v.l_tags, reg_top K s b v i a e)), ne_eqb (j / 16) g (λ q. apart_from i a e y j (omega arith) (omega arith) u)) (o.tags j u);
   }
 
 pub core_struck : (m : Group) (K : Fixed) (s t : State) (b c : Ledger) → Inv K s b → Tidy m s b → Core m s t b c → {x : Call} {d : Effect} → View K s x d → is_struck m x ≡ true → GivesApart m x

@@ -1,11 +1,11 @@
 -- What each change of the model leaves, place by place.
-use Rattle.std.proofs.Common.{◌≡◌, ℕ, zero, suc, ◌+◌, ◌-◌, ◌*◌, ◌/◌, ◌%◌, ◌<◌, ◌≤◌, Bool, true, false, cond, ◌&&◌, ◌||◌, eqb, ltb, ◌≢◌, List, [], ◌∷◌, map, length, get_or, drop, set, replicate, is_ok, Some, None, Option, sym, refl, ap, ◌∙◌, inl, inr, arith, rules}
+use Rattle.std.proofs.Common.{◌≡◌, ℕ, zero, suc, ◌+◌, ◌-◌, ◌*◌, ◌/◌, ◌%◌, ◌<◌, ◌≤◌, Bool, true, false, cond, ◌&&◌, ◌||◌, eqb, ◌≢◌, List, [], ◌∷◌, map, length, get_or, drop, set, replicate, is_ok, Some, None, Option, sym, refl, ap, ◌∙◌, inl, inr, arith, rules}
 use lib.Seq.{paste}
 use Rattle.std.proofs.lemmas.List.Edits.{length-paste}
-use Rattle.std.proofs.lemmas.List.{get_or_default, get_or-drop, get_or_past, get_or-replicate, get_or-set_other, get_or-set_same, length-map, length-set, places}
-use Rattle.std.proofs.lemmas.Bool.{cases_eq, cases_lt, cond-false, cond-true, lt-ltb, ne_eqb, or_right, false_from_ne_true, cases_Bool, cond_both}
+use Rattle.std.proofs.lemmas.List.{get_or_default, get_or-drop, get_or_past, get_or-replicate, get_or-set_other, length-map, length-set, places}
+use Rattle.std.proofs.lemmas.Bool.{cases_lt, cond-false, lt-ltb, or_right, false_from_ne_true, cases_Bool, cond_both, eqb-true}
 use Rattle.std.proofs.lemmas.Bool.Decides.{nat_tests}
-use Rattle.allocator.specs.Allocators.{Allocation, releasing}
+use Rattle.allocator.specs.Allocators.{releasing}
 use Rattle.allocator.specs.declared.cell.Cell.{Cell}
 use Rattle.allocator.specs.declared.cell.Cell.TheVariants.{Free, First, Rest}
 use Rattle.allocator.specs.Maps.{is_first, rests_in_front, run_length, run_of}
@@ -55,27 +55,16 @@ row_length rs c sh h = let l = sh.rows in
     rw (get_or_default rs.compartments c empty_compartment (record { registers = [] }) (omega arith)) (sh.columns c h)
 
 pub reg_put : (rs : Registers) (c r j : ℕ) (o : Option Capability) → Shaped rs → c < 8 → r < 8 → reg_in (with_register_in rs c r o) j ≡ cond (eqb j (slot c r)) o (reg_in rs j)
-reg_put rs c r j o sh hc hr = elim (cases_eq (j / 8) c) [
-  | inl e ↦
-      ap (λ (x : Compartment). get_or x.registers (j % 8) None) (ap (λ (k : ℕ). get_or (set cs c new) k empty_compartment) e ∙ get_or-set_same cs c new empty_compartment (omega (arith, sh.rows)))
-      ∙ (get_set row r (j % 8) o None (omega (arith, row_length rs c sh hc))
-      ∙ (λ i. cond (same e i) o (get_or (get_or cs (sym e i) empty_compartment).registers (j % 8) None)))
-  | inr n ↦
-      ap (λ (x : Compartment). get_or x.registers (j % 8) None) (get_or-set_other cs c (j / 8) new empty_compartment n)
-      ∙ sym (cond-false (eqb j (slot c r)) _ _ (ne_eqb j (slot c r) (λ q. n (omega arith))))
-]
+reg_put rs c r j o sh hc hr = rw (get_set rs.compartments c (j / 8) (record { registers = set row r o }) empty_compartment (omega (arith, sh.rows))) (elim (cases_Bool (eqb (j / 8) c)) [
+  | inl y ↦
+      let e : j / 8 ≡ c = eqb-true (j / 8) c y in
+      let p = get_set row r (j % 8) o None (omega (arith, row_length rs c sh hc)) in
+      rw y (grind (arith, nat_tests, p))
+  | inr n ↦ rw n (grind (arith, nat_tests))
+])
   where
-    cs : List Compartment
-    cs = rs.compartments
-
     row : List (Option Capability)
-    row = (get_or cs c empty_compartment).registers
-
-    new : Compartment
-    new = record { registers = set row r o }
-
-    same : j / 8 ≡ c → eqb (j % 8) r ≡ eqb j (slot c r)
-    same e = grind (arith, nat_tests)
+    row = (get_or rs.compartments c empty_compartment).registers
 
 pub shaped_put : (rs : Registers) (c r : ℕ) (o : Option Capability) → Shaped rs → c < 8 → r < 8 → Shaped (with_register_in rs c r o)
 shaped_put rs c r o sh hc hr = record {
@@ -265,9 +254,7 @@ swept_more p k g x y = grind (arith, nat_tests)
 pub get_swept : (rs : List Run) (bs : List ℕ) (p k g : ℕ) (ts : List Bool) → get_or (swept_tags rs bs p k ts) g false ≡ cond (within p k g && in_runs rs (word_at bs (16 * g) / 16)) false (get_or ts g false)
 get_swept rs bs p zero g ts = grind (arith, nat_tests)
 get_swept rs bs p (suc k) g ts =
-    swept_one rs bs (p + k) g (swept_tags rs bs p k ts)
-    ∙ (ap (λ (x : Bool). cond (eqb g (p + k) && in_runs rs (word_at bs (16 * g) / 16)) false x) (get_swept rs bs p k g ts)
-    ∙ swept_more p k g (in_runs rs (word_at bs (16 * g) / 16)) (get_or ts g false))
+    rw (swept_one rs bs (p + k) g (swept_tags rs bs p k ts), get_swept rs bs p k g ts) (swept_more p k g (in_runs rs (word_at bs (16 * g) / 16)) (get_or ts g false))
 
 -- runs wiped: each lies inside the granules
 
@@ -287,20 +274,20 @@ pub length_wiped_bytes : (all : ℕ) (rs : List Run) (bs : List ℕ) → length 
 length_wiped_bytes all [] bs l h = l
 length_wiped_bytes all (r ∷ rs) bs l h =
     let i = h r (inl refl) in
-    let w = cond-true _ _ _ (wipes r.start r.length all i.0 i.1) in
-    ap (λ (x : List ℕ). length (wiped_bytes all rs x)) w
-    ∙ length_wiped_bytes all rs (paste bs (16 * r.start) (replicate (16 * r.length) 0) (16 * r.length)) (fill_length bs (16 * r.start) (16 * r.length) 0 (omega arith) ∙ l) (λ x a. h x (inr a))
+    rw (wipes r.start r.length all i.0 i.1)
+    (length_wiped_bytes all rs _ (fill_length bs (16 * r.start) (16 * r.length) 0 (omega arith) ∙ l) (λ x a. h x (inr a)))
 
 pub get_wiped_bytes : (all : ℕ) (rs : List Run) (bs : List ℕ) (i : ℕ) → length bs ≡ 16 * all → InsideAll all rs → get_or (wiped_bytes all rs bs) i 0 ≡ cond (in_runs rs (i / 16)) 0 (get_or bs i 0)
 get_wiped_bytes all [] bs i l h = refl
 get_wiped_bytes all (r ∷ rs) bs i l h =
     let q = h r (inl refl) in
-    let w = cond-true _ _ _ (wipes r.start r.length all q.0 q.1) in
     let bs' = paste bs (16 * r.start) (replicate (16 * r.length) 0) (16 * r.length) in
-    ap (λ (x : List ℕ). get_or (wiped_bytes all rs x) i 0) w
-    ∙ (get_wiped_bytes all rs bs' i (fill_length bs (16 * r.start) (16 * r.length) 0 (omega arith) ∙ l) (λ x a. h x (inr a))
-    ∙ (ap (λ (x : ℕ). cond (in_runs rs (i / 16)) 0 x) (fill_place bs (16 * r.start) (16 * r.length) i 0 0 (omega arith) ∙ ap (λ (t : Bool). cond t 0 (get_or bs i 0)) (by_granule r.start r.length i))
-    ∙ two_ways (in_run r (i / 16)) (in_runs rs (i / 16)) 0 (get_or bs i 0)))
+    rw (
+      wipes r.start r.length all q.0 q.1,
+      get_wiped_bytes all rs bs' i (fill_length bs (16 * r.start) (16 * r.length) 0 (omega arith) ∙ l) (λ x a. h x (inr a)),
+      fill_place bs (16 * r.start) (16 * r.length) i 0 0 (omega arith),
+      by_granule r.start r.length i,
+    ) (two_ways (in_run r (i / 16)) (in_runs rs (i / 16)) 0 (get_or bs i 0))
   where
     by_granule : (b n i : ℕ) → within (16 * b) (16 * n) i ≡ within b n (i / 16)
     by_granule b n i = grind (arith, nat_tests)
@@ -309,20 +296,20 @@ pub length_wiped_tags : (rs : List Run) (ts : List Bool) → InsideAll (length t
 length_wiped_tags [] ts h = refl
 length_wiped_tags (r ∷ rs) ts h =
     let i = h r (inl refl) in
-    let w = cond-true _ _ _ (wipes r.start r.length (length ts) i.0 i.1) in
     let l = fill_length ts r.start r.length false i.1 in
-    ap (λ (x : List Bool). length (wiped_tags rs x)) w
-    ∙ (length_wiped_tags rs (paste ts r.start (replicate r.length false) r.length) (λ x a. let q = h x (inr a) in (q.0, omega arith)) ∙ l)
+    rw (wipes r.start r.length (length ts) i.0 i.1)
+    (length_wiped_tags rs _ (λ x a. let q = h x (inr a) in (q.0, omega arith)) ∙ l)
 
 pub get_wiped_tags : (rs : List Run) (ts : List Bool) (g : ℕ) → InsideAll (length ts) rs → get_or (wiped_tags rs ts) g false ≡ cond (in_runs rs g) false (get_or ts g false)
 get_wiped_tags [] ts g h = refl
 get_wiped_tags (r ∷ rs) ts g h =
     let i = h r (inl refl) in
-    let w = cond-true _ _ _ (wipes r.start r.length (length ts) i.0 i.1) in
     let l = fill_length ts r.start r.length false i.1 in
-    ap (λ (x : List Bool). get_or (wiped_tags rs x) g false) w
-    ∙ (get_wiped_tags rs (paste ts r.start (replicate r.length false) r.length) g (λ x a. let q = h x (inr a) in (q.0, omega arith))
-    ∙ (ap (λ (x : Bool). cond (in_runs rs g) false x) (fill_place ts r.start r.length g false false i.1) ∙ two_ways (in_run r g) (in_runs rs g) false (get_or ts g false)))
+    rw (
+      wipes r.start r.length (length ts) i.0 i.1,
+      get_wiped_tags rs (paste ts r.start (replicate r.length false) r.length) g (λ x a. let q = h x (inr a) in (q.0, omega arith)),
+      fill_place ts r.start r.length g false false i.1,
+    ) (two_ways (in_run r g) (in_runs rs g) false (get_or ts g false))
 
 -- runs released: each is exactly a run of the map, and no two share a granule
 
@@ -360,8 +347,7 @@ whole_length cs r w = let p = w.some in run_is cs r.start r.length p
 -- releasing one run frees its granules
 released_one : (cs : List Cell) (r : Run) → WholeRun cs r → (releasing cs 0 r.start).cells ≡ freed r cs
 released_one cs r w = let p = w.some in let l = whole_length cs r w in
-    ap (λ (a : Allocation). a.cells) (cond-true (ltb 0 (run_length cs r.start)) _ _ (lt-ltb 0 (run_length cs r.start) (omega arith)))
-    ∙ ap (λ (n : ℕ). paste cs r.start (replicate n Free) n) l
+    rw (lt-ltb 0 (run_length cs r.start) (omega arith), l)
 
 freed_place : (cs : List Cell) (r : Run) (g : ℕ) → WholeRun cs r → get_or (freed r cs) g Free ≡ cond (in_run r g) Free (get_or cs g Free)
 freed_place cs r g w = fill_place cs r.start r.length g Free Free (whole_inside cs r w)
@@ -387,13 +373,10 @@ pub length_released : (rs : List Run) (cs : List Cell) → ((r : Run) → Among 
 length_released [] cs h d = refl
 length_released (r ∷ rs) cs h d =
     let w = h r (inl refl) in
-    ap (λ (x : List Cell). length (released_cells rs x)) (released_one cs r w)
-    ∙ (length_released rs (freed r cs) (others_whole cs r rs h d) d.1 ∙ fill_length cs r.start r.length Free (whole_inside cs r w))
+    rw (released_one cs r w, length_released rs (freed r cs) (others_whole cs r rs h d) d.1) (fill_length cs r.start r.length Free (whole_inside cs r w))
 
 pub get_released : (rs : List Run) (cs : List Cell) (g : ℕ) → ((r : Run) → Among r rs → WholeRun cs r) → Disjoint rs → get_or (released_cells rs cs) g Free ≡ cond (in_runs rs g) Free (get_or cs g Free)
 get_released [] cs g h d = refl
 get_released (r ∷ rs) cs g h d =
     let w = h r (inl refl) in
-    ap (λ (x : List Cell). get_or (released_cells rs x) g Free) (released_one cs r w)
-    ∙ (get_released rs (freed r cs) g (others_whole cs r rs h d) d.1
-    ∙ (ap (λ (x : Cell). cond (in_runs rs g) Free x) (freed_place cs r g w) ∙ two_ways (in_run r g) (in_runs rs g) Free (get_or cs g Free)))
+    rw (released_one cs r w, get_released rs (freed r cs) g (others_whole cs r rs h d) d.1, freed_place cs r g w) (two_ways (in_run r g) (in_runs rs g) Free (get_or cs g Free))

@@ -3,7 +3,7 @@ use Rattle.std.proofs.Common.{◌≡◌, ℕ, ◌+◌, ◌*◌, ◌/◌, ◌<◌
 use Rattle.std.proofs.lemmas.Option.{same_Some}
 use lib.Seq.{paste}
 use Rattle.std.proofs.lemmas.Bool.Decides.{nat_tests}
-use Rattle.std.proofs.lemmas.Bool.{or_cases, or_parts, cases_lt, cond-true, cond-false, ne_eqb, eq-eqb, or_left, or_right, false_from_ne_true}
+use Rattle.std.proofs.lemmas.Bool.{or_cases, or_parts, cases_lt, cond-true, ne_eqb, eq-eqb, or_left, or_right, false_from_ne_true}
 use Rattle.allocator.specs.declared.cell.Cell.{Cell}
 use Rattle.allocator.specs.declared.cell.Cell.TheVariants.{Free, First, Rest}
 use Rattle.allocator.specs.Maps.{FreeAt, run_length, run_of}
@@ -136,7 +136,7 @@ module _ {cs : List Cell} {latest : ℕ → Option ℕ} {grants : ℕ → Option
     made = l.made;
     granted = l.granted;
     some = l.some;
-    cells = λ g lo hi. there g ∙ (cond-false (in_runs rs g) _ _ (wholly rs al l w.start (omega arith) (omega (arith, l.some)) un g lo hi) ∙ l.cells g lo hi);
+    cells = λ g lo hi. rw (there g, wholly rs al l w.start (omega arith) (omega (arith, l.some)) un g lo hi) (l.cells g lo hi);
     mine = l.mine;
   }
 
@@ -193,10 +193,10 @@ module _ (cs : List Cell) (latest : ℕ → Option ℕ) (grants : ℕ → Option
     to = l.to;
     whole = l.whole;
     made = l.made;
-    granted = cond-false (eqb k k₀) _ _ (ne_eqb k k₀ (omega arith)) ∙ l.granted;
+    granted = rw (ne_eqb k k₀ (omega arith)) l.granted;
     some = l.some;
-    cells = λ g lo hi. get_taken cs b n g pos room.0 ∙ (cond-false (within b n g) _ _ (outside g lo hi) ∙ l.cells g lo hi);
-    mine = λ i lo hi. cond-false (leb (base_of whole) i && ltb i (top_of whole)) _ _ (apart i (outside (i / 16) (omega arith) (omega arith))) ∙ l.mine i lo hi;
+    cells = λ g lo hi. rw (get_taken cs b n g pos room.0, outside g lo hi) (l.cells g lo hi);
+    mine = λ i lo hi. rw (apart i (outside (i / 16) (omega arith) (omega arith))) (l.mine i lo hi);
   }
     where
       outside : (g : ℕ) → w.start ≤ g → g < w.start + w.length → within b n g ≡ false
@@ -212,7 +212,7 @@ module _ (cs : List Cell) (latest : ℕ → Option ℕ) (grants : ℕ → Option
     made = made;
     granted = cond-true (eqb k₀ k₀) _ _ (eq-eqb k₀ k₀ refl);
     some = pos;
-    cells = λ g lo hi. get_taken cs b n g pos room.0 ∙ cond-true (within b n g) _ _ (within_is b n g lo hi);
+    cells = λ g lo hi. rw (get_taken cs b n g pos room.0, within_is b n g lo hi);
     mine = λ i lo hi. cond-true (leb (base_of whole) i && ltb i (top_of whole)) _ _ (let s = spans in grind (arith, nat_tests));
   }
 

@@ -2,7 +2,7 @@
 use Rattle.std.proofs.Common.{◌≡◌, ℕ, ◌+◌, ◌-◌, ◌*◌, ◌/◌, ◌<◌, ◌≤◌, Bool, true, false, cond, ◌&&◌, eqb, ltb, leb, List, get_or, set, Some, None, Option, sym, refl, ap, ◌∙◌, subst, inl, inr, arith}
 use Rattle.std.proofs.lemmas.Option.{none-some, same_Some}
 use lib.Seq.{paste}
-use Rattle.std.proofs.lemmas.Bool.{cases_Bool, cond-false, eq-eqb, eqb-true, ne_eqb, false_from_ne_true, both_ways}
+use Rattle.std.proofs.lemmas.Bool.{cases_Bool, eq-eqb, eqb-true, ne_eqb, false_from_ne_true, both_ways}
 use Rattle.allocator.specs.declared.cell.Cell.{Cell}
 use Rattle.allocator.specs.declared.cell.Cell.TheVariants.{Free}
 use Rattle.allocator.specs.Maps.{run_of}
@@ -80,10 +80,7 @@ module _ (m : Group) (K : Fixed) (s : State) (b : Ledger) (v : Inv K s b) (d : T
   tidy_byte : (a x : ℕ) → a < 16 * K.memory_granules → (get_or s.cells (a / 16) Free ≡ Free → ⊥) → Tidy m (with_byte s a x) b
   tidy_byte a x lt tk = record {
     free_tags = λ g e. tag g ∙ clear_still (eqb g (a / 16)) (λ _. d.free_tags g e);
-    free_bytes = λ i e. get_set s.bytes a i x 0 (omega (arith, v.l_bytes)) ∙ (elim (cases_Bool (eqb i a)) [
-      | inl y ↦ absurd (tk (rw (eqb-true i a y) at e))
-      | inr n ↦ cond-false (eqb i a) x (get_or s.bytes i 0) n ∙ d.free_bytes i e
-    ]);
+    free_bytes = λ i e. rw (get_set s.bytes a i x 0 (omega (arith, v.l_bytes)), ne_eqb i a (λ q. tk (rw q at e))) (d.free_bytes i e);
     dated = d.dated;
     even = d.even;
     reg_side = d.reg_side;
@@ -96,16 +93,14 @@ module _ (m : Group) (K : Fixed) (s : State) (b : Ledger) (v : Inv K s b) (d : T
   tidy_cap : (g₀ : ℕ) (c : Capability) (o : Option Entry) → g₀ < K.memory_granules → (get_or s.cells g₀ Free ≡ Free → ⊥)
       → ((k : ℕ) (w : Grant) → b.latest (16 * g₀) ≡ Some k → b.grants k ≡ Some w → Side m b.grants o (m w.to)) → Tidy m (with_capability s g₀ c) (with_granule b g₀ o)
   tidy_cap g₀ c o lt tk h = record {
-    free_tags = λ g e. tag g ∙ (elim (cases_Bool (eqb g g₀)) [
-      | inl y ↦ absurd (tk (rw (eqb-true g g₀ y) at e))
-      | inr n ↦ cond-false (eqb g g₀) true (get_or s.tags g false) n ∙ d.free_tags g e
-    ]);
-    free_bytes = λ i e. get_image s.bytes g₀ c i (omega (arith, v.l_bytes)) ∙ (elim (cases_Bool (within (16 * g₀) 16 i)) [
-      | inl y ↦ let u = within_true (16 * g₀) 16 i y in
+    free_tags = λ g e. rw (tag g, ne_eqb g g₀ (λ q. tk (rw q at e))) (d.free_tags g e);
+    free_bytes = λ i e. rw (
+      get_image s.bytes g₀ c i (omega (arith, v.l_bytes)),
+      false_from_ne_true (within (16 * g₀) 16 i) (λ y.
+          let u = within_true (16 * g₀) 16 i y in
           let z : i / 16 ≡ g₀ = omega arith in
-          absurd (tk (rw z at e))
-      | inr n ↦ cond-false (within (16 * g₀) 16 i) _ (get_or s.bytes i 0) n ∙ d.free_bytes i e
-    ]);
+          tk (rw z at e)),
+    ) (d.free_bytes i e);
     dated = d.dated;
     even = d.even;
     reg_side = d.reg_side;
