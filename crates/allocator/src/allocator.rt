@@ -6,6 +6,8 @@ ghost use Rattle.allocator.specs.Maps.{Lawful, Rule, run_length, taken_in};
 use crate::fault::AllocatorFault;
 
 // An allocator of granules. Its model is the map, the mark, the allowance and the placement rule with its law.
+// Kept as they are: the clauses `denied`, `most` and `size` of each change, since they relate the allocator before to the
+// allocator after, which no ghost field does.
 pub trait Allocator {
     // Each granule as free, first or rest.
     ghost cells: { Self → List Cell };

@@ -29,27 +29,27 @@ halves_assoc n b c ih =
     l ∙ (ap₂ (λ x y. x * 2 + y) ih (min_assoc (n % 2) (b % 2) (c % 2)) ∙ sym r)
 
 -- the bits of three numbers, in either order
-and_assoc : (a b c : ℕ) → bit_and (bit_and a b) c ≡ bit_and a (bit_and b c)
+pub and_assoc : (a b c : ℕ) → bit_and (bit_and a b) c ≡ bit_and a (bit_and b c)
 and_assoc a =
     bin_ind (λ (n : ℕ). (b c : ℕ) → bit_and (bit_and n b) c ≡ bit_and n (bit_and b c)) (λ b c. refl)
     (λ n ih b c. halves_assoc n b c (ih (b / 2) (c / 2))) a
 
-base_assoc : (a b c d e f : ℕ) → shared_base (shared_base a b c d) (shared_top a b c d) e f ≡ shared_base a b (shared_base c d e f) (shared_top c d e f)
+pub base_assoc : (a b c d e f : ℕ) → shared_base (shared_base a b c d) (shared_top a b c d) e f ≡ shared_base a b (shared_base c d e f) (shared_top c d e f)
 base_assoc a b c d e f = grind (arith, nat_tests)
 
-top_assoc : (a b c d e f : ℕ) → shared_top (shared_base a b c d) (shared_top a b c d) e f ≡ shared_top a b (shared_base c d e f) (shared_top c d e f)
+pub top_assoc : (a b c d e f : ℕ) → shared_top (shared_base a b c d) (shared_top a b c d) e f ≡ shared_top a b (shared_base c d e f) (shared_top c d e f)
 top_assoc a b c d e f = grind (arith, nat_tests)
 
-base_comm : (a b c d : ℕ) → shared_base a b c d ≡ shared_base c d a b
+pub base_comm : (a b c d : ℕ) → shared_base a b c d ≡ shared_base c d a b
 base_comm a b c d = grind (arith, nat_tests)
 
-top_comm : (a b c d : ℕ) → shared_top a b c d ≡ shared_top c d a b
+pub top_comm : (a b c d : ℕ) → shared_top a b c d ≡ shared_top c d a b
 top_comm a b c d = grind (arith, nat_tests)
 
-base_self : (a b : ℕ) → is_span a b ≡ true → shared_base a b a b ≡ a
+pub base_self : (a b : ℕ) → is_span a b ≡ true → shared_base a b a b ≡ a
 base_self a b h = grind (arith, nat_tests)
 
-top_self : (a b : ℕ) → is_span a b ≡ true → shared_top a b a b ≡ b
+pub top_self : (a b : ℕ) → is_span a b ≡ true → shared_top a b a b ≡ b
 top_self a b h = grind (arith, nat_tests)
 
 -- the laws of the meet of bounds

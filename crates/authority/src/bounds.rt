@@ -1,4 +1,4 @@
-ghost use Rattle.authority.specs.Spans.{is_span, shared_base, shared_top};
+ghost use Rattle.authority.specs.Spans.{is_span};
 ghost use Rattle.std.specs.Prelude.{◌≡◌, true, ◌==◌};
 
 // The addresses from a base up to a top; empty bounds are 0 to 0.
@@ -43,14 +43,5 @@ impl Bounds {
         ensures { result ≡ (self.top == 0) }
     {
         self.top == 0
-    }
-
-    // The addresses of both.
-    #[tactic(auto, unfolding(crate::specs::BoundsMeet::bounds_between))]
-    pub fn shared(self, other: Bounds) -> Bounds
-        ensures base { result.base ≡ shared_base self.base self.top other.base other.top }
-        ensures top { result.top ≡ shared_top self.base self.top other.base other.top }
-    {
-        Bounds::between(self.base.max(other.base), self.top.min(other.top))
     }
 }

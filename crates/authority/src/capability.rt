@@ -34,6 +34,7 @@ impl Capability {
         Some(Capability { authority })
     }
 
+    // Kept as they are, `new` and `numbers`: a constructor and a view by name, as the other constructors here.
     // The capability of some numbers; none unless base is below top and the third is a permission number.
     pub fn new(numbers: Numbers) -> Option<Capability>
         ensures { result ≡ capability_of numbers.base numbers.top numbers.permissions }

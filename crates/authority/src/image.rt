@@ -5,13 +5,13 @@ use crate::capability::Capability;
 use crate::numbers::Numbers;
 
 // The byte k places after another; 0 past the end.
+// Kept as it is: a number and no Option, since `word_at` promises that bytes past the end count as 0.
 fn byte_after(bytes: &[u8], at: usize, k: usize) -> u8
     ensures { result ≡ slice_index bytes.now (at + k) }
 {
-    match at.checked_add(k) {
-        Some(i) => bytes.get(i).copied().unwrap_or(0),
-        None => 0,
-    }
+    at.checked_add(k)
+        .and_then(|i| bytes.get(i).copied())
+        .unwrap_or(0)
 }
 
 // The number in the four bytes from a place on, low byte first; bytes past the end count as 0.
@@ -21,7 +21,23 @@ pub fn word_at(bytes: &[u8], at: usize) -> u32
     u32::from_le_bytes([0, 1, 2, 3].map(|k| byte_after(bytes, at, k)))
 }
 
+impl Numbers {
+    // The numbers at the places of an image; bytes past the end count as 0.
+    pub fn read(image: &[u8]) -> Numbers
+        ensures base { result.base ≡ word_at image.now 0 }
+        ensures top { result.top ≡ word_at image.now 4 }
+        ensures permissions { result.permissions ≡ slice_index image.now 8 }
+    {
+        Numbers {
+            base: word_at(image, 0),
+            top: word_at(image, 4),
+            permissions: u32::from(byte_after(image, 8, 0)),
+        }
+    }
+}
+
 impl Capability {
+    // Kept as they are: an array and an Option by name, since `capability.image()` says what the bytes are, and `From` would not.
     // Base in four bytes, low byte first, top likewise, the permission number, seven zero bytes.
     pub fn image(self) -> [u8; 16]
         ensures { result ≡ image_of self }
@@ -37,10 +53,6 @@ impl Capability {
         ensures value { result ≡ read_image image.now }
         ensures back { ImageReadsBack }
     {
-        Capability::new(Numbers {
-            base: word_at(image, 0),
-            top: word_at(image, 4),
-            permissions: u32::from(image[8]),
-        })
+        Capability::new(Numbers::read(image))
     }
 }

@@ -40,9 +40,9 @@ impl MeetSemilattice for Bounds {
 
     ghost idempotent = { bounds_self };
 
-    #[tactic(auto, using(crate::specs::BoundsMeet::same_bounds), unfolding(crate::specs::BoundsMeet::meet_bounds))]
+    #[tactic(auto, using(crate::specs::BoundsMeet::same_bounds), unfolding(crate::specs::BoundsMeet::meet_bounds, crate::specs::BoundsMeet::bounds_between))]
     fn meet(self, other: Bounds) -> Bounds {
-        self.shared(other)
+        Bounds::between(self.base().max(other.base()), self.top().min(other.top()))
     }
 }
 
@@ -57,7 +57,9 @@ impl MeetSemilattice for Permissions {
 
     #[tactic(auto, using(crate::specs::PermissionsMeet::same_permissions), unfolding(crate::specs::PermissionsMeet::meet_permissions))]
     fn meet(self, other: Permissions) -> Permissions {
-        self.shared(other)
+        Permissions {
+            bits: self.bits & other.bits,
+        }
     }
 }
 

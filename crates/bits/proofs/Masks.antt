@@ -1,10 +1,11 @@
 -- The bits of a buffer after one byte is written, and lists filled from a place on.
-use Rattle.std.proofs.Common.{◌≡◌, ℕ, ◌+◌, ◌-◌, ◌*◌, ◌/◌, ◌%◌, ◌^◌, ◌<◌, ◌≤◌, Bool, true, false, cond, eqb, List, length, get_or, set, replicate, refl, ap, ◌∙◌, ⊎_elim, arith, w8}
+use Rattle.std.proofs.Common.{◌≡◌, ℕ, ◌+◌, ◌-◌, ◌*◌, ◌/◌, ◌%◌, ◌^◌, ◌<◌, ◌≤◌, Bool, true, false, cond, eqb, List, length, get_or, set, replicate, refl, sym, ap, ◌∙◌, ⊎_elim, arith, w8}
 use lib.Bits.{bit_and, bit_or}
 use lib.Seq.{paste}
+use native.Mathlib.Nat.{zero-div}
 use Rattle.std.proofs.lemmas.List.FromFn.{get_or-map-range_with_len}
 use Rattle.std.proofs.lemmas.List.Edits.{fill_from_more}
-use Rattle.std.proofs.lemmas.List.{length-set, ext_get_or}
+use Rattle.std.proofs.lemmas.List.{length-set, length-replicate, get_or-replicate, ext_get_or}
 use Rattle.std.proofs.lemmas.Bool.{cases_eq, eq-eqb, ne_eqb}
 use Rattle.std.proofs.lemmas.Nat.Bits.{bit_at_set_same, bit_at_set_other, bit_at_clear_same, bit_at_clear_other}
 use Rattle.std.proofs.lemmas.Bool.Decides.{nat_tests}
@@ -60,3 +61,14 @@ put_off b k hk j hj =
     (λ (e : j ≡ k). rw (e, eq-eqb k k refl) (ap (λ x. eqb x 1) (bit_at_clear_same w8 b k hk)))
     (λ (ne : j ≡ k → ⊥). rw (ne_eqb j k ne) (ap (λ x. eqb x 1) (bit_at_clear_other w8 b k hk j hj ne)))
     (cases_eq j k)
+
+-- zero bytes have no bit set
+pub zero_bits : (n i : ℕ) → i < 8 * n → get_or (bits_of (replicate n 0)) i false ≡ false
+unfolding bits_of
+zero_bits n i h = grind (arith, length-replicate, get_or-map-range_with_len, get_or-replicate, zero-div)
+
+pub bits_zero : (n : ℕ) → bits_of (replicate n 0) ≡ replicate (8 * n) false
+bits_zero n =
+    let size : length (bits_of (replicate n 0)) ≡ 8 * n = length_bits (replicate n 0) ∙ ap (λ k. 8 * k) (length-replicate n 0) in
+    ext_get_or false (bits_of (replicate n 0)) (replicate (8 * n) false) (size ∙ sym (length-replicate (8 * n) false)) (λ i h.
+    let b : i < 8 * n = omega arith in zero_bits n i b ∙ sym (get_or-replicate (8 * n) i false false b))

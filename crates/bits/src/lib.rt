@@ -1,7 +1,7 @@
 // Bit buffers over lent bytes: bit g % 8 of byte g / 8 stands for place g.
 #![tactic(auto)]
 
-ghost use Rattle.std.specs.Prelude.{◌≡◌, ◌*◌, false, nat_le, slice_index_or, slice_set};
+ghost use Rattle.std.specs.Prelude.{◌≡◌, ◌*◌, ◌%◌, ◌==◌, ◌&&◌, false, nat_le, slice_index_or, slice_set, if◌then◌else◌, Some, None};
 ghost use Rattle.bits.specs.Bits.{bits_of, filled};
 
 use spot::Spot;
@@ -13,6 +13,13 @@ fn has_room(bytes: usize, end: usize) -> bool
     ensures { result ≡ nat_le end (8 * bytes) }
 {
     end.div_ceil(8) <= bytes
+}
+
+// The places of a bitmap of granules, if its bytes stand for a multiple of 16 from 16 to 1,024.
+pub fn granules(bytes: usize) -> Option<usize>
+    ensures { result ≡ (if bytes % 2 == 0 && (nat_le 2 bytes && nat_le bytes 128) then Some (8 * bytes) else None) }
+{
+    (bytes % 2 == 0 && bytes >= 2 && bytes <= 128).then(|| 8 * bytes)
 }
 
 // The bit at place g; false past the end.

@@ -28,7 +28,7 @@ impl Spot {
         (byte >> self.shift) % 2 == 1
     }
 
-    // A byte with the bit set to `on`.
+    // A byte with the bit set to `on`: the bit itself, and no flag.
     #[tactic(auto, using(crate::proofs::Masks::put_on, crate::proofs::Masks::put_off))]
     pub(crate) fn with(self, byte: u8, on: bool) -> u8
         ensures { BitPut byte result self.shift on }

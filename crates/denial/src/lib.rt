@@ -31,6 +31,7 @@ pub enum Denial {
 }
 
 impl Denial {
+    // Kept as it is: `number` is the rules' word for it, and `u8::from` would say less.
     pub fn number(self) -> u8
         ensures { result ≡ number_of self }
     {
@@ -49,6 +50,7 @@ pub enum Layer {
 }
 
 impl Layer {
+    // Kept as it is: a letter by name, since `char::from` would not say that it is the layer's letter.
     pub fn letter(self) -> char
         ensures { result ≡ letter_of self }
     {
@@ -63,6 +65,7 @@ impl Layer {
 }
 
 // Why a part of the runtime denies: which denial it is, and which part it comes from.
+// Kept as methods: denial and layer belong together, and `From<F> for Denial` would give the one without the other.
 pub trait Fault: Copy {
     ghost denial_of: { Self → Denial };
 

@@ -2,10 +2,11 @@ ghost use Rattle.machine.specs.Model.{Fixed, State};
 ghost use Rattle.quarantine.specs.declared.sweep.Sweep.TheVariants.{Idle as SweepIdle};
 ghost use Rattle.std.specs.Prelude.{[], length};
 
-use crate::checks::{byte_at, check_operand, check_permission, granule_at};
+use crate::checks::{byte_at, check_permission, granule_at};
 use crate::compartment_machine::CompartmentMachine;
 use crate::fault::MachineFault;
 use crate::machine::Machine;
+use crate::operand::Operand;
 use crate::slot::Slot;
 use allocator::allocator::Allocator;
 use authority::bounds::Bounds;
@@ -16,6 +17,7 @@ use authority::permission::Permission;
 use authority::permissions::{ALL_PERMISSIONS, Permissions};
 use memory::tagged_memory::TaggedMemory;
 
+// Kept as they are: the checks in front of each call, since their order is the order of the denials.
 impl<M: TaggedMemory, B: Allocator> CompartmentMachine for Machine<M, B> {
     ghost fixed = { λ m. record { memory_granules = length (M.TaggedMemory.tags m.memory); allocator_granules = length (B.Allocator.cells m.allocator); most = B.Allocator.most m.allocator; place = B.Allocator.place; lawful = B.Allocator.lawful } };
 
@@ -28,17 +30,17 @@ impl<M: TaggedMemory, B: Allocator> CompartmentMachine for Machine<M, B> {
         granules: u32,
     ) -> Result<u32, MachineFault> {
         let slot = Slot::of(compartment, register)?;
-        check_operand(granules)?;
-        if granules == 0 {
+        let granules = Operand::of(granules)?;
+        if granules.value == 0 {
             return Err(MachineFault::BadNum);
         }
         if self.memory.granules() != self.allocator.granules() {
             return Err(MachineFault::Sizes);
         }
-        let base = 16 * self.allocator.allocate(granules as usize)? as u32;
+        let base = 16 * self.allocator.allocate(granules.value as usize)? as u32;
         let granted = Capability::new(Numbers {
             base,
-            top: base + 16 * granules,
+            top: base + 16 * granules.value,
             permissions: ALL_PERMISSIONS,
         });
         self.registers.put(slot, granted);
@@ -56,12 +58,12 @@ impl<M: TaggedMemory, B: Allocator> CompartmentMachine for Machine<M, B> {
     ) -> Result<u32, MachineFault> {
         let slot = Slot::of(compartment, register)?;
         let source = Slot::of(compartment, source)?;
-        check_operand(offset)?;
-        check_operand(length)?;
+        let offset = Operand::of(offset)?;
+        let length = Operand::of(length)?;
         let second = Permissions::from_number(permissions).ok_or(MachineFault::BadNum)?;
         let held = self.registers.held(source)?;
-        let from = held.base() + offset;
-        let first = Bounds::between(from, from + length);
+        let from = held.base() + offset.value;
+        let first = Bounds::between(from, from + length.value);
         let derived = held
             .derive(Pair { first, second })
             .ok_or(MachineFault::Nothing)?;
@@ -71,7 +73,7 @@ impl<M: TaggedMemory, B: Allocator> CompartmentMachine for Machine<M, B> {
 
     fn getb(&mut self, compartment: u32, register: u32, offset: u32) -> Result<u32, MachineFault> {
         let slot = Slot::of(compartment, register)?;
-        check_operand(offset)?;
+        let offset = Operand::of(offset)?;
         let held = self.registers.held(slot)?;
         check_permission(held, Permission::Load)?;
         let byte = self.memory.read_byte(byte_at(held, offset)?)?;
@@ -86,13 +88,11 @@ impl<M: TaggedMemory, B: Allocator> CompartmentMachine for Machine<M, B> {
         value: u32,
     ) -> Result<u32, MachineFault> {
         let slot = Slot::of(compartment, register)?;
-        check_operand(offset)?;
-        if value > 255 {
-            return Err(MachineFault::BadNum);
-        }
+        let offset = Operand::of(offset)?;
+        let value = u8::try_from(value).map_err(|_| MachineFault::BadNum)?;
         let held = self.registers.held(slot)?;
         check_permission(held, Permission::Store)?;
-        self.memory.store_byte(byte_at(held, offset)?, value as u8)?;
+        self.memory.store_byte(byte_at(held, offset)?, value)?;
         Ok(0)
     }
 
@@ -106,7 +106,7 @@ impl<M: TaggedMemory, B: Allocator> CompartmentMachine for Machine<M, B> {
     ) -> Result<u32, MachineFault> {
         let slot = Slot::of(compartment, register)?;
         let source = Slot::of(compartment, source)?;
-        check_operand(offset)?;
+        let offset = Operand::of(offset)?;
         let held = self.registers.held(slot)?;
         let stored = self.registers.held(source)?;
         check_permission(held, Permission::Store)?;
@@ -125,7 +125,7 @@ impl<M: TaggedMemory, B: Allocator> CompartmentMachine for Machine<M, B> {
     ) -> Result<u32, MachineFault> {
         let slot = Slot::of(compartment, register)?;
         let target = Slot::of(compartment, target)?;
-        check_operand(offset)?;
+        let offset = Operand::of(offset)?;
         let held = self.registers.held(slot)?;
         check_permission(held, Permission::Load)?;
         check_permission(held, Permission::Capabilities)?;

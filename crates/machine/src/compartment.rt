@@ -8,7 +8,7 @@ use authority::capability::Capability;
 pub const REGISTERS: usize = 8;
 
 // A compartment: eight registers, each empty or with one capability.
-#[derive(Clone, Copy)]
+#[derive(Clone, Copy, Debug, PartialEq, Eq)]
 pub struct Compartment {
     registers: [Option<Capability>; REGISTERS],
 }

@@ -8,6 +8,9 @@ use call::Call;
 
 // A machine that compartments call. Each call answers and changes the state as its rule says; a denied call leaves
 // the whole machine as it was.
+// Kept as they are: the clauses `fixed` and `denied` at each call, since they relate the machine before to the machine
+// after, and a ghost field says only what holds of one machine; and compartment and register as two numbers, since a
+// call may name two registers of one compartment.
 pub trait CompartmentMachine {
     ghost fixed: { Self → Fixed };
 
@@ -102,6 +105,7 @@ pub trait CompartmentMachine {
         ensures denied { is_ok result ≡ false → self.new ≡ self.old };
 
     // Makes any call.
+    // Kept as it is: a `match`, since each kind of call has operands of its own.
     fn perform(&mut self, call: Call) -> Result<u32, MachineFault>
         ensures answer { result ≡ outcome (perform_rule (fixed self.old) (state self.old) (call_of call)) }
         ensures state { state self.new ≡ state_after (state self.old) (perform_rule (fixed self.old) (state self.old) (call_of call)) }

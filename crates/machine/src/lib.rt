@@ -8,5 +8,6 @@ pub mod compartment_machine;
 pub mod fault;
 pub mod machine;
 pub mod numbered;
+mod operand;
 pub mod registers;
 mod slot;

@@ -38,6 +38,7 @@ impl Fault for MachineFault {
     }
 }
 
+// Kept by hand, like the next: a derived `From` has no contract, and the clause names the fault that `?` makes.
 impl From<AllocatorFault> for MachineFault {
     ghost from_gives = { λ x y. y ≡ AllocatorCase x };
 

@@ -1,9 +1,6 @@
--- The model of a flat memory over buffers of fitting sizes, and the bits of zeroed tag bytes.
-use Rattle.std.proofs.Common.{◌≡◌, ℕ, ◌*◌, ◌/◌, ◌%◌, ◌<◌, Bool, true, false, cond, eqb, List, length, Ok, Err, refl, replicate, sym, ap, ◌∙◌, arith}
-use Rattle.std.proofs.lemmas.Nat.Bits.{bit_at-zero}
-use Rattle.std.proofs.lemmas.List.{ext_get_or, get_or-replicate, length-replicate}
-use Rattle.bits.specs.Bits.{bit, bits_of, length_bits}
-use Rattle.bits.proofs.Masks.{get_d_bits}
+-- The model of a flat memory over buffers of fitting sizes.
+use Rattle.std.proofs.Common.{◌≡◌, ℕ, ◌/◌, Bool, true, false, cond, List, length, Ok, Err, refl, sym, ◌∙◌}
+use Rattle.bits.specs.Bits.{length_bits}
 use Rattle.memory.specs.Flats.{GranulesOf, fits_for, sizes_checked, sizes_fit}
 use Rattle.memory.specs.declared.fault.MemoryFault.TheVariants.{Sizes}
 
@@ -30,15 +27,3 @@ pub granules_checked : (bs ts xs ys : List ℕ) (n : ℕ) → Ok n ≡ sizes_che
 granules_checked bs ts xs ys n e hb ht =
     let f = checked (sizes_fit (length xs) (length ys)) (length xs / 16) n e in
     rw (f.1, ← hb) (granules_fit bs ts (rw (hb, ht) f.0))
-
--- zero bytes have no bit set
-pub bits_zero : (n : ℕ) → bits_of (replicate n 0) ≡ replicate (8 * n) false
-bits_zero n =
-    let zeros : List ℕ = replicate n 0 in
-    let size : length zeros ≡ n = length-replicate n 0 in
-    let bits : length (bits_of zeros) ≡ 8 * n = length_bits zeros ∙ ap (λ k. 8 * k) size in
-    ext_get_or false (bits_of zeros) (replicate (8 * n) false) (bits ∙ sym (length-replicate (8 * n) false)) (λ i h.
-    let b : i < 8 * n = omega arith in
-    get_d_bits zeros i (omega arith)
-    ∙ (ap (λ x. bit x (i % 8)) (get_or-replicate n (i / 8) 0 0 (omega arith))
-    ∙ (ap (λ x. eqb x 1) (bit_at-zero (i % 8)) ∙ sym (get_or-replicate (8 * n) i false false b))))

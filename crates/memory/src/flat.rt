@@ -7,14 +7,13 @@ ghost use Rattle.memory.specs.Memories.{change_at, granule_at, reaching};
 ghost use Rattle.std.proofs.Math.Seq.{paste};
 
 use crate::fault::MemoryFault;
-use crate::granule::{GRANULE_BYTES, Granule, MOST_GRANULES};
+use crate::granule::{GRANULE_BYTES, Granule};
 use crate::tagged_memory::TaggedMemory;
 use authority::capability::Capability;
-use authority::image::word_at;
 use authority::numbers::Numbers;
 
 // Tagged memory over two lent buffers: 16 bytes of data for each granule, and its tag as one bit.
-// The number of granules is 0 where the sizes of the buffers do not fit.
+// The number of granules is by the rules 0 where the sizes of the buffers do not fit.
 // Kept as it is: bytes and tags apart, since a caller lends exactly these two buffers, of these layouts.
 #[derive(Drop)]
 pub struct Flat<'a> {
@@ -22,14 +21,6 @@ pub struct Flat<'a> {
     tags: &'a mut [u8],
     granules: usize,
     ghost counted: { GranulesOf bytes.now tags.now granules },
-}
-
-// Whether buffers of these sizes fit some number of granules: a multiple of 16, from 16 to 1,024.
-fn fits(bytes: usize, tags: usize) -> bool
-    ensures { result ≡ sizes_fit bytes tags }
-{
-    let g = bytes / GRANULE_BYTES;
-    bytes % GRANULE_BYTES == 0 && tags == g / 8 && g % 16 == 0 && g >= 16 && g <= MOST_GRANULES
 }
 
 // Writes 0 into each byte.
@@ -69,15 +60,14 @@ impl<'a> Flat<'a> {
     pub fn check_sizes(bytes: &[u8], tags: &[u8]) -> Result<usize, MemoryFault>
         ensures { result ≡ sizes_checked (length bytes.now) (length tags.now) }
     {
-        if fits(bytes.len(), tags.len()) {
-            Ok(bytes.len() / GRANULE_BYTES)
-        } else {
-            Err(MemoryFault::Sizes)
-        }
+        bits::granules(tags.len())
+            .filter(|g| bytes.len() == GRANULE_BYTES * *g)
+            .ok_or(MemoryFault::Sizes)
     }
 
+    // Kept beside next fit's `new`: the two zero their buffers or leave them, but their buffers and models differ.
     // A fresh memory over two buffers. Where the sizes do not fit it has no granules, and the buffers stay as they are.
-    #[tactic(auto, using(crate::proofs::Flats::bits_zero))]
+    #[tactic(auto, using(bits::proofs::Masks::bits_zero))]
     pub fn new(bytes: &'a mut [u8], tags: &'a mut [u8]) -> Flat<'a>
         ensures bytes { result.bytes.now ≡ (if sizes_fit (length bytes.old) (length tags.old) then replicate (length bytes.old) 0 else bytes.old) }
         ensures tags { result.tags.now ≡ (if sizes_fit (length bytes.old) (length tags.old) then replicate (length tags.old) 0 else tags.old) }
@@ -120,11 +110,7 @@ impl<'a> Flat<'a> {
     {
         Granule {
             tagged: bits::get(&*self.tags, g),
-            numbers: Numbers {
-                base: word_at(&*self.bytes, GRANULE_BYTES * g),
-                top: word_at(&*self.bytes, GRANULE_BYTES * g + 4),
-                permissions: u32::from(self.bytes[GRANULE_BYTES * g + 8]),
-            },
+            numbers: Numbers::read(&self.bytes[GRANULE_BYTES * g..]),
         }
     }
 }
@@ -198,30 +184,20 @@ impl<'a> TaggedMemory for Flat<'a> {
 mod tests {
     use super::*;
     use denial::Fault;
-    use std::test::Fail;
 
     #[test]
-    fn most_granules_fit(rt: HostRuntime) -> Result<(), Fail> {
+    fn most_granules_fit(rt: HostRuntime) {
         let (bytes, tags) = ([0u8; 16384], [0u8; 128]);
-        match Flat::check_sizes(&bytes, &tags) {
-            Ok(granules) => {
-                assert_eq!(rt; granules, 1024);
-                Ok(())
-            },
-            Err(_) => Err(Fail::new("the sizes of 1,024 granules are denied")),
-        }
+        assert_eq!(rt; Flat::check_sizes(&bytes, &tags), Ok(1024));
     }
 
     #[test]
-    fn more_granules_do_not_fit(rt: HostRuntime) -> Result<(), Fail> {
+    fn more_granules_do_not_fit(rt: HostRuntime) {
         let (bytes, tags) = ([0u8; 16640], [0u8; 130]);
-        match Flat::check_sizes(&bytes, &tags) {
-            Ok(_) => Err(Fail::new("the sizes of 1,040 granules fit")),
-            Err(fault) => {
-                assert_eq!(rt; fault.code(), 19);
-                Ok(())
-            },
-        }
+        assert_eq!(rt;
+            Flat::check_sizes(&bytes, &tags).map_err(|fault| fault.code()),
+            Err(19)
+        );
     }
 
     #[test]
@@ -244,20 +220,24 @@ mod tests {
             permissions: 31,
         };
         assert!(rt; memory.store_capability(15, numbers).is_ok());
-        assert_eq!(rt; stored(&memory), (true, 3, 256, 31));
+        assert_eq!(rt;
+            memory.read_granule(15),
+            Ok(Granule {
+                tagged: true,
+                numbers
+            })
+        );
         assert!(rt; memory.store_byte(244, 9).is_ok());
-        assert_eq!(rt; stored(&memory), (false, 3, 265, 31));
-    }
-
-    fn stored(memory: &Flat) -> (bool, u32, u32, u32) {
-        match memory.read_granule(15) {
-            Ok(granule) => (
-                granule.tagged,
-                granule.numbers.base,
-                granule.numbers.top,
-                granule.numbers.permissions,
-            ),
-            Err(_) => (false, 0, 0, 0),
-        }
+        let over = Numbers {
+            top: 265,
+            ..numbers
+        };
+        assert_eq!(rt;
+            memory.read_granule(15),
+            Ok(Granule {
+                tagged: false,
+                numbers: over
+            })
+        );
     }
 }

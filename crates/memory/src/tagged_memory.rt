@@ -8,6 +8,8 @@ use crate::granule::Granule;
 use authority::numbers::Numbers;
 
 // A memory of 16-byte granules, each with a tag. Its model is the list of bytes and the list of tags.
+// Kept as it is: the clause `denied` of each change, since it relates the memory before to the memory after, which no
+// ghost field does.
 pub trait TaggedMemory {
     ghost bytes: { Self → List ℕ };
 

@@ -1,8 +1,7 @@
 -- The map of two buffers: its length, its granules, those that are taken, and its changes.
 use Rattle.std.proofs.Common.{zero, count_by, ◌≡◌, ℕ, suc, ◌+◌, ◌*◌, ◌<◌, ◌≤◌, Bool, true, false, cond, List, map, length, get_or, drop, set, replicate, Some, Ok, sym, ◌∙◌, arith}
 use lib.Seq.{paste}
-use native.Mathlib.Nat.{zero-div}
-use Rattle.std.proofs.lemmas.List.FromFn.{get_or-map-range_with_len}
+use Rattle.bits.proofs.Masks.{zero_bits}
 use Rattle.std.proofs.lemmas.List.{get_or-map, length-map, get_or_past, get_or_default, at_drop_more, at_drop_all, ext_get_or, length-replicate, get_or-replicate}
 use Rattle.std.proofs.lemmas.List.Sums.{sum_by-cons}
 use Rattle.std.specs.List.{range_with_len}
@@ -71,11 +70,6 @@ pub releasing_whole :
     (cs : List Cell) (m b n : ℕ) → 0 < n → n ≡ run_length cs b →
     releasing cs m b ≡ record { answer = Ok n; cells = paste cs b (replicate n Free) n; mark = m }
 releasing_whole cs m b n z e = grind arith
-
--- the bits of zeroed bytes
-zero_bits : (n i : ℕ) → i < 8 * n → get_or (bits_of (replicate n 0)) i false ≡ false
-unfolding bits_of
-zero_bits n i h = grind (arith, length-replicate, get_or-map-range_with_len, get_or-replicate, zero-div)
 
 -- two zeroed buffers: all granules are free
 pub cells_fresh : (n m : ℕ) → cells_of (bits_of (replicate n 0)) (bits_of (replicate m 0)) ≡ replicate (8 * n) Free

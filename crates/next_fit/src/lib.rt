@@ -1,13 +1,15 @@
 // The bitmap allocator: next fit over two lent bit buffers.
 #![tactic(auto)]
 
-ghost use Rattle.std.specs.Prelude.{◌≡◌, length};
+ghost use Rattle.std.specs.Prelude.{◌≡◌, ◌+◌, ◌<◌, ◌≤◌, length};
+ghost use Rattle.allocator.specs.Maps.{run_length};
 ghost use Rattle.next_fit.specs.Bitmaps.{fresh_map, granules_of, map_of, sizes_answer, sizes_fit, zeroed_if};
 ghost use Rattle.next_fit.specs.Laws.{next_fit_lawful};
 ghost use Rattle.next_fit.specs.Placement.{next_fit};
 
 use crate::runs::{begin_run, count_taken};
 use allocator::allocator::Allocator;
+use allocator::cell::Cell;
 use allocator::fault::AllocatorFault;
 use bits::fill;
 
@@ -22,7 +24,7 @@ mod tests;
 pub struct NextFit<'a> {
     used: &'a mut [u8],
     firsts: &'a mut [u8],
-    // The number of granules; none where the sizes of the buffers do not fit.
+    // The number of granules; 0 by the rules where the sizes of the buffers do not fit.
     granules: usize,
     mark: usize,
     ghost sized: { granules ≡ granules_of (length used.now) (length firsts.now) },
@@ -33,12 +35,9 @@ impl<'a> NextFit<'a> {
     pub fn check_sizes(used: &[u8], firsts: &[u8]) -> Result<usize, AllocatorFault>
         ensures { result ≡ sizes_answer (length used.now) (length firsts.now) }
     {
-        let bytes = used.len();
-        if bytes == firsts.len() && bytes % 2 == 0 && bytes >= 2 && bytes <= 128 {
-            Ok(8 * bytes)
-        } else {
-            Err(AllocatorFault::Sizes)
-        }
+        bits::granules(used.len())
+            .filter(|_| used.len() == firsts.len())
+            .ok_or(AllocatorFault::Sizes)
     }
 
     // All granules free and the mark at 0; where the sizes do not fit, no granules, and the buffers as they were.
@@ -93,16 +92,21 @@ impl<'a> Allocator for NextFit<'a> {
         self.granules()
     }
 
-    fn length_at(&self, b: usize) -> usize {
-        self.run_at(b)
+    #[tactic(auto, using(crate::proofs::Counts::counted, crate::proofs::Lengths::run_steps))]
+    fn length_at(&self, b: usize) -> usize
+        ensures within { 0 < result → b + result ≤ self.now.granules }
+        ensures value { result ≡ run_length (map_of self.now.used.now self.now.firsts.now) b }
+    {
+        if self.cell(b) != Cell::First {
+            return 0;
+        }
+        1 + self.rests_from(b + 1)
     }
 
     #[tactic(auto, using(crate::proofs::Counts::length_same))]
     fn allocate(&mut self, n: usize) -> Result<usize, AllocatorFault> {
         self.admit(n)?;
-        let Some((b, mark)) = self.find(n) else {
-            return Err(AllocatorFault::NoRun);
-        };
+        let (b, mark) = self.find(n).ok_or(AllocatorFault::NoRun)?;
         let end = b + n;
         fill(&mut *self.used, b, end, true);
         begin_run(&mut *self.firsts, b, end);
@@ -112,7 +116,7 @@ impl<'a> Allocator for NextFit<'a> {
 
     #[tactic(auto, using(crate::proofs::Counts::length_same, crate::proofs::Counts::released_steps))]
     fn release(&mut self, b: usize) -> Result<usize, AllocatorFault> {
-        let n = self.run_at(b);
+        let n = self.length_at(b);
         if n == 0 {
             return Err(AllocatorFault::NotWhole);
         }

@@ -1,8 +1,9 @@
 // Runs of granules.
-ghost use Rattle.std.specs.Prelude.{◌≡◌, ◌+◌, ◌-◌, ◌<◌, ◌≤◌, true, false, count_by, slice_index_or, slice_set};
+// Kept as it is: `map_of` of the two buffers in each clause, since the trait's `cells` is that map, and the bits are read by it.
+ghost use Rattle.std.specs.Prelude.{◌≡◌, ◌-◌, true, false, count_by, slice_index_or, slice_set};
 ghost use Rattle.allocator.specs.declared.cell.Cell.TheVariants.{Free};
 ghost use Rattle.std.specs.List.{prefix_len, range_with_len};
-ghost use Rattle.allocator.specs.Maps.{is_rest, run_length};
+ghost use Rattle.allocator.specs.Maps.{is_rest};
 ghost use Rattle.bits.specs.Bits.{bits_of, filled};
 ghost use Rattle.next_fit.specs.Bitmaps.{map_of};
 
@@ -13,7 +14,7 @@ use bits::{fill, get, put};
 impl<'a> NextFit<'a> {
     // What granule g is; past the last it counts as free.
     #[tactic(auto, using(crate::proofs::Counts::cell_steps))]
-    fn cell(&self, g: usize) -> Cell
+    pub(crate) fn cell(&self, g: usize) -> Cell
         ensures { result ≡ slice_index_or (map_of self.now.used.now self.now.firsts.now) g Free }
     {
         if g >= self.granules {
@@ -28,24 +29,12 @@ impl<'a> NextFit<'a> {
 
     // How many granules from `from` on are the rest of a run, up to the first that is not.
     #[tactic(auto, using(crate::proofs::Lengths::rest_same))]
-    fn rests_from(&self, from: usize) -> usize
+    pub(crate) fn rests_from(&self, from: usize) -> usize
         ensures { result ≡ prefix_len (λ g. is_rest (slice_index_or (map_of self.now.used.now self.now.firsts.now) g Free)) (range_with_len from (self.now.granules - from)) }
     {
         (from..self.granules)
             .take_while(|&g| self.cell(g) == Cell::Rest)
             .count()
-    }
-
-    // The length of the run that begins at granule b, or 0.
-    #[tactic(auto, using(crate::proofs::Counts::counted, crate::proofs::Lengths::run_steps))]
-    pub(crate) fn run_at(&self, b: usize) -> usize
-        ensures within { 0 < result → b + result ≤ self.now.granules }
-        ensures value { result ≡ run_length (map_of self.now.used.now self.now.firsts.now) b }
-    {
-        if self.cell(b) != Cell::First {
-            return 0;
-        }
-        1 + self.rests_from(b + 1)
     }
 }
 

@@ -43,6 +43,7 @@ impl<'a> NextFit<'a> {
         ensures within { IfSome result (λ x. x.0 + n ≤ length (map_of self.now.used.now self.now.firsts.now)) }
         ensures value { result ≡ next_fit (map_of self.now.used.now self.now.firsts.now) self.now.mark n }
     {
+        // Kept as a `match`: of `or_else` the check knows nothing where the first search finds none.
         let b = match self.seek(n, self.mark) {
             Some(b) => b,
             None => self.seek(n, 0)?,

@@ -1,12 +1,11 @@
 -- The shadow bitmap: what it says of each granule, and what one more run adds to it.
-use Rattle.std.proofs.Common.{◌≡◌, ℕ, ◌+◌, ◌/◌, ◌%◌, ◌^◌, ◌<◌, min, true, false, ◌||◌, List, [], ◌∷◌, ◌++◌, length, get_or, take, replicate, sym, refl, ap, ◌∙◌, arith}
-use native.Mathlib.Nat.{zero-div}
+use Rattle.std.proofs.Common.{◌≡◌, ℕ, ◌+◌, ◌<◌, min, true, false, ◌||◌, List, [], ◌∷◌, ◌++◌, length, get_or, take, replicate, sym, refl, ◌∙◌, arith}
 use Rattle.std.proofs.lemmas.List.FromFn.{length-map-range_with_len, get_or-map-range_with_len}
-use Rattle.std.proofs.lemmas.List.{places, ext_get_or, get_or-replicate, length-replicate, take_more}
+use Rattle.std.proofs.lemmas.List.{places, ext_get_or, take_more}
 use Rattle.std.proofs.lemmas.Bool.Decides.{nat_tests}
 use Rattle.std.proofs.lemmas.List.Recursion.{or_push}
 use Rattle.bits.specs.Bits.{bits_of, filled, length_bits}
-use Rattle.bits.proofs.Masks.{get_d_bits}
+use Rattle.bits.proofs.Masks.{zero_bits}
 use Rattle.quarantine.specs.Runs.{in_run, in_runs, shadow_of}
 use Rattle.quarantine.specs.declared.run.Run.{Run}
 
@@ -19,17 +18,10 @@ unfolding shadow_of
 get_or_shadow rs g h = get_or-map-range_with_len (in_runs rs) 0 1024 g g false h (omega arith)
 
 -- zero bytes are the shadow of no runs
-pub shadow_none : (bs : List ℕ) → bs ≡ replicate 128 0 → bits_of bs ≡ shadow_of []
-shadow_none bs is =
-    let size : length bs ≡ 128 = ap length is ∙ length-replicate {A = ℕ} 128 0 in
-    let bits = length_bits bs in
-    let all = length_shadow [] in
-    ext_get_or false (bits_of bs) (shadow_of []) (omega arith) (λ i h.
-    let zero : get_or bs (i / 8) 0 ≡ 0 = ap (λ xs. get_or xs (i / 8) 0) is ∙ get_or-replicate {A = ℕ} 128 (i / 8) 0 0 (omega arith) in
-    let none = zero-div (2 ^ (i % 8)) in
-    let at = get_d_bits bs i (omega arith) in
-    let seen = get_or_shadow [] i (omega arith) in
-    grind (arith, nat_tests))
+pub shadow_none : bits_of (replicate 128 0) ≡ shadow_of []
+shadow_none =
+    ext_get_or false (bits_of (replicate 128 0)) (shadow_of []) (length_bits (replicate 128 0) ∙ sym (length_shadow [])) (λ i h.
+    let b : i < 1024 = omega (arith, length_bits (replicate 128 0)) in zero_bits 128 i b ∙ sym (get_or_shadow [] i b))
 
 in_runs_push : (rs : List Run) (r : Run) (g : ℕ) → in_runs (rs ++ (r ∷ [])) g ≡ (in_runs rs g || in_run r g)
 in_runs_push rs r g = or_push (λ xs. in_runs xs g) (λ x. in_run x g) refl (λ _ _. refl) rs r

@@ -3,6 +3,7 @@ ghost use Rattle.std.specs.Prelude.{◌≡◌, ◌+◌, ◌-◌, ◌<◌, ◌≤
 ghost use Rattle.quarantine.specs.Runs.{most_runs};
 
 // The painted runs are among those held.
+// Kept as they are: three methods that answer counts with none painted, each with what it holds.
 #[derive(Clone, Copy, Debug, PartialEq, Eq)]
 pub(crate) struct Counts {
     pub(crate) painted: usize,

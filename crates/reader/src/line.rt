@@ -26,7 +26,7 @@ pub fn read_line(line: &[u8], number: usize) -> Result<Call, Place>
     let text = words.next().ok_or(place)?;
     let verb = Word::Verb { text, place }.verb()?;
     let kinds = verb.kinds();
-    // Kept as it is: a plain array of six, the most operands of a verb, since the project allows no heap here.
+    // Kept as it is: a plain array of six, the most operands of a verb, since reading a line never asks for memory.
     let mut operands = [0; 6];
     for (i, kind) in kinds.iter().enumerate() {
         let place = Place::of_operand(number, i);
@@ -41,7 +41,7 @@ pub fn read_line(line: &[u8], number: usize) -> Result<Call, Place>
 mod tests {
     use super::*;
 
-    // The number of the first wrong word; 0 if the line reads as a call.
+    // The number of the first wrong word; 0 if the line reads as a call: a place counts words from 1.
     fn wrong_word(line: &[u8]) -> usize {
         read_line(line, 1).err().map_or(0, |place| place.word)
     }

@@ -22,6 +22,7 @@ fn plain(text: &[u8]) -> bool
 }
 
 // The number that a word writes in decimal.
+// Kept beside `read_permissions`: the loop is three lines, and one over any step would have to promise the step's bound.
 pub(crate) fn read_number(text: &[u8]) -> Option<u32>
     ensures { ReadsAs decimal 65535 text.now result }
 {

@@ -39,6 +39,7 @@ const VERBS: [Verb; 8] = [
 
 impl Verb {
     // The word that names a verb.
+    // Kept as it is: bytes by name, since a script is bytes and `Display` would give text.
     fn name(self) -> &'static [u8]
         ensures { result.now ≡ name_of self }
     {
@@ -75,6 +76,7 @@ impl Verb {
     }
 
     // The call of a verb with its operands.
+    // Kept as it is: a `match`, since each kind of call has operands of its own.
     pub(crate) fn call(self, operands: &[u32; 6]) -> Call
         ensures verb { verb_of result ≡ self }
         ensures operands { operands_of result ≡ take (length (kinds_of self)) operands.now }

@@ -1,8 +1,8 @@
 // What a run of a script prints.
 #![tactic(auto)]
 
-ghost use Rattle.std.specs.Prelude.{Some};
-ghost use Rattle.report.specs.Texts.{part_text};
+ghost use Rattle.std.specs.Prelude.{Some, IfOk, string_bytes};
+ghost use Rattle.report.specs.Texts.{Prints, part_text};
 
 use allocator::quota::Quota;
 use machine::machine::Machine;
@@ -36,8 +36,11 @@ impl fmt::Display for Part<'_> {
     }
 }
 
+// Kept as they are: arrays of fixed size, the program's own memory.
 // Runs a script on a fresh machine of 32 granules, flat memory under a quota of 24 over next fit, and gives what is printed.
-pub fn run_text(heap: Global, script: &[u8]) -> Result<String, AllocError> {
+pub fn run_text(heap: Global, script: &[u8]) -> Result<String, AllocError>
+    ensures { IfOk result (λ text. Prints script.now (string_bytes text)) }
+{
     let (mut bytes, mut tags) = ([0u8; 512], [0u8; 4]);
     let (mut used, mut firsts) = ([0u8; 4], [0u8; 4]);
     let memory = Flat::new(&mut bytes, &mut tags);
@@ -68,10 +71,10 @@ mod tests {
     fn first_grant(tags: &mut [u8], used: &mut [u8], firsts: &mut [u8]) -> (u8, char) {
         let mut bytes = [0u8; 512];
         let mut machine = Machine::new(Flat::new(&mut bytes, tags), NextFit::new(used, firsts));
-        match machine.grant(0, 0, 1) {
-            Ok(_) => (0, '-'),
-            Err(fault) => (fault.code(), fault.layer().letter()),
-        }
+        machine
+            .grant(0, 0, 1)
+            .err()
+            .map_or((0, '-'), |fault| (fault.code(), fault.layer().letter()))
     }
 
     #[test]

@@ -43,6 +43,7 @@ impl ScriptFault {
     }
 
     // The word on TEXT, else 0.
+    // Kept as it is: a number and no Option, since by the rules 0 is printed where there is no word.
     pub fn answer(self) -> usize
         ensures { result ≡ script_answer self }
     {
@@ -66,6 +67,7 @@ impl fmt::Display for ScriptFault {
     }
 }
 
+// Kept by hand, like the next three: a derived `From` has no contract, and the clause names the fault that `?` makes.
 impl From<Place> for ScriptFault {
     ghost from_gives = { λ x y. y ≡ TextCase x };
 

@@ -8,6 +8,8 @@ use reader::script::{Entry, read_script};
 use std::alloc::{AllocError, Global};
 
 // Performs the call of a line, if it reads as one.
+// Kept as they are, here and below: the clauses `fixed` and `denied`, since they relate the machine before to the machine
+// after, and what is fixed beside the state, since a machine has both.
 fn perform_line<C: CompartmentMachine>(machine: &mut C, entry: Entry) -> Result<u32, ScriptFault>
     ensures outcome { result ≡ (line_outcome (C.CompartmentMachine.fixed machine.old) (C.CompartmentMachine.state machine.old) entry).outcome }
     ensures state { C.CompartmentMachine.state machine.new ≡ reading_state (C.CompartmentMachine.fixed machine.old) (C.CompartmentMachine.state machine.old) entry.reading }
@@ -34,6 +36,7 @@ fn run_line<C: CompartmentMachine>(machine: &mut C, entry: Entry) -> LineOutcome
 }
 
 // Runs the lines of a script, and keeps what each comes to. Without memory for that, nothing is run.
+#[tactic(auto, using(crate::proofs::Steps::state_more, crate::proofs::Steps::outcomes_more))]
 pub fn run_entries<C: CompartmentMachine>(
     heap: Global,
     machine: &mut C,

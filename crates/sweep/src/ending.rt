@@ -17,6 +17,7 @@ fn wipe_run<M: TaggedMemory>(memory: &mut M, run: Run)
 }
 
 // Wipes the painted runs, one after another.
+// Kept apart from `release_painted`: the two change different parts, by different traits, and share no clause.
 pub fn wipe_painted<M: TaggedMemory>(memory: &mut M, quarantine: &Quarantine)
     ensures bytes { M.TaggedMemory.bytes memory.new ≡ wiped_bytes (length (M.TaggedMemory.tags memory.old)) (painted_of quarantine.now) (M.TaggedMemory.bytes memory.old) }
     ensures tags { M.TaggedMemory.tags memory.new ≡ wiped_tags (painted_of quarantine.now) (M.TaggedMemory.tags memory.old) }

@@ -21,6 +21,7 @@ fn agrees(rt: &HostRuntime, number: u32) -> anyhow::Result<bool> {
 
 fn compare_all(rt: &HostRuntime) -> anyhow::Result<()> {
     let mut differ = 0u32;
+    // Kept as it is: the scripts are named by their numbers.
     for number in 0..SCRIPTS {
         if !agrees(rt, number)? {
             differ = differ.saturating_add(1);

@@ -1,6 +1,5 @@
-use Rattle.std.proofs.Common.{refl}
 use Rattle.quarantine.proofs.Shadows.{shadow_none}
 use Rattle.quarantine.proofs.shade.unpainted.Goals as goal
 
 pub returns : goal.returns
-returns c = shadow_none _ refl
+returns c = shadow_none

@@ -2,7 +2,7 @@ use Rattle.std.proofs.Common.{◌-◌, ◌+◌, arith}
 use Rattle.next_fit.specs.Bitmaps.{map_of}
 use Rattle.next_fit.proofs.Counts.{counted}
 use Rattle.next_fit.proofs.Lengths.{first_inside, first_same, rests_range, rests_within, run_start}
-use Rattle.next_fit.proofs.NextFit.run_at.Goals as goal
+use Rattle.next_fit.proofs.NextFitAllocator.length_at.Goals as goal
 
 pub overflow_add-result : goal.overflow_add-result
 overflow_add-result c =
