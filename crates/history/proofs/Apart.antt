@@ -21,6 +21,7 @@ use Rattle.history.proofs.Steps.{inv_fresh, inv_step}
 use Rattle.history.proofs.Tidy.{Tidy, tidy_step}
 use Rattle.history.proofs.View.{view}
 
+-- Kept as a lemma: `cc` alone is slow where the invariant is in scope.
 nil_cons : {A X : Type 0} {a : A} {l : List A} → [] ≡ a ∷ l → X
 nil_cons e = cc
 

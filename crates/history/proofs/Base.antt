@@ -4,7 +4,7 @@ use Rattle.std.proofs.lemmas.List.{places}
 use Rattle.std.proofs.lemmas.Bool.Decides.{nat_tests}
 use Rattle.quarantine.specs.declared.run.Run.{Run}
 
--- `cc` finds it anywhere, but slowly where the machine's invariant is in scope
+-- Kept as a lemma: `cc` alone takes seconds where the machine's invariant is in scope.
 pub err_ok : {X E Y : Type 0} {f : E} {x : X} → ◌≡◌ {A = Result X E} (Err f) (Ok x) → Y
 err_ok e = cc
 
@@ -26,7 +26,7 @@ within_true a n g e = grind (arith, nat_tests)
 pub within_is : (a n g : ℕ) → a ≤ g → g < a + n → within a n g ≡ true
 within_is a n g lo hi = grind (arith, nat_tests)
 
--- a run is one of several
+-- a run is one of several. Kept beside std's Contains: by recursion on the list, as in_runs and begins_at are.
 abbrev pub Among : Run → List Run → Type 0
 Among r [] = ⊥
 Among r (x ∷ xs) = (r ≡ x) ⊎ Among r xs

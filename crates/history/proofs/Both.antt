@@ -61,7 +61,7 @@ module _ (m : Group) (K : Fixed) (s t : State) (b c : Ledger) (v : Inv K s b) (v
     same = λ i. record (o.same i) { waiting = []; painted = (o.same i).waiting; sweep = Open 0 };
     bytes = o.bytes;
     tags = o.tags;
-    registers = λ j h. reg_emptied s.waiting s.registers j ∙ (λ i. survivor ((o.same i).waiting) (o.registers j h i)) ∙ sym (reg_emptied t.waiting t.registers j);
+    registers = λ j h. reg_emptied s.waiting s.registers j ∙ (λ i. survivor (o.same i).waiting (o.registers j h i)) ∙ sym (reg_emptied t.waiting t.registers j);
   }
 
   pub core_shut : Core m (with_shut s) (with_shut t) b c
@@ -97,7 +97,7 @@ module _ (m : Group) (K : Fixed) (s t : State) (b c : Ledger) (v : Inv K s b) (v
     registers = o.registers;
     tags = λ j u. let w = word_alike j (16 * (j / 16)) u (omega arith) (omega arith) in
         get_swept s.painted s.bytes p k (j / 16) s.tags
-        ∙ (λ i. cond (within p k (j / 16) && in_runs ((o.same i).painted) (w i / 16)) false (o.tags j u i))
+        ∙ (λ i. cond (within p k (j / 16) && in_runs (o.same i).painted (w i / 16)) false (o.tags j u i))
         ∙ sym (get_swept t.painted t.bytes p k (j / 16) t.tags);
   }
 
@@ -105,8 +105,8 @@ module _ (m : Group) (K : Fixed) (s t : State) (b c : Ledger) (v : Inv K s b) (v
   core_end = record {
     same = λ i. record (o.same i) { cells = released_cells (o.same i).painted (o.same i).cells; painted = []; sweep = Idle };
     registers = o.registers;
-    bytes = λ j u. painted_wiped_bytes K s b v j ∙ (λ i. cond (in_runs ((o.same i).painted) (j / 16)) 0 (o.bytes j u i)) ∙ sym (painted_wiped_bytes K t c v' j);
-    tags = λ j u. painted_wiped_tags K s b v (j / 16) ∙ (λ i. cond (in_runs ((o.same i).painted) (j / 16)) false (o.tags j u i)) ∙ sym (painted_wiped_tags K t c v' (j / 16));
+    bytes = λ j u. painted_wiped_bytes K s b v j ∙ (λ i. cond (in_runs (o.same i).painted (j / 16)) 0 (o.bytes j u i)) ∙ sym (painted_wiped_bytes K t c v' j);
+    tags = λ j u. painted_wiped_tags K s b v (j / 16) ∙ (λ i. cond (in_runs (o.same i).painted (j / 16)) false (o.tags j u i)) ∙ sym (painted_wiped_tags K t c v' (j / 16));
   }
 
   pub core_grant : (a r n at next : ℕ) → a < 8 → r < 8 → Room s.cells at n → (it : Capability) → base_of it ≡ 16 * at → top_of it ≡ 16 * at + 16 * n

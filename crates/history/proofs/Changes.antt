@@ -47,6 +47,7 @@ tagged_in [] g e = cc
 tagged_in (x ∷ ts) zero e = omega arith
 tagged_in (x ∷ ts) (suc g) e = let h = tagged_in ts g e in omega arith
 
+-- Kept as lemmas: `cc` alone is slow where the invariant is in scope.
 pub idle_open : {X : Type 0} {p : ℕ} → Idle ≡ Open p → X
 idle_open e = cc
 
@@ -105,7 +106,7 @@ module _ (K : Fixed) (s : State) (b : Ledger) (v : Inv K s b) where
       go Idle q e = ap (λ (rs : List Run). in_runs rs (base_of c / 16)) (v.idle q)
       go (Open p) q e = e
 
-  -- a sweep opens
+  -- a sweep opens. Kept field by field, as the others: `record v { .. }` has the type of v, and the invariant of another state is another type.
   pub inv_open : s.sweep ≡ Idle → Inv K (with_painted s) b
   inv_open idle = record {
     sized = v.sized;
