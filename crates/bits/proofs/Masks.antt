@@ -1,13 +1,14 @@
 -- The bits of a buffer after one byte is written, and lists filled from a place on.
-use Rattle.std.proofs.Common.{◌≡◌, ℕ, ◌+◌, ◌-◌, ◌*◌, ◌/◌, ◌%◌, ◌^◌, ◌<◌, ◌≤◌, Bool, true, false, cond, eqb, List, length, get_or, set, replicate, refl, sym, ap, ◌∙◌, ⊎_elim, arith, w8}
+use Rattle.std.proofs.Common.{◌≡◌, ℕ, zero, suc, ◌+◌, ◌-◌, ◌*◌, ◌/◌, ◌%◌, ◌^◌, ◌<◌, ◌≤◌, Bool, true, false, cond, eqb, List, length, get_or, set, replicate, refl, sym, ap, ◌∙◌, ⊎_elim, arith}
 use lib.Bits.{bit_and, bit_or}
 use lib.Seq.{paste}
-use native.Mathlib.Nat.{zero-div}
+use native.Mathlib.Nat.{pow-suc, zero-div}
 use Rattle.std.proofs.lemmas.List.FromFn.{get_or-map-range_with_len}
 use Rattle.std.proofs.lemmas.List.Edits.{fill_from_more}
 use Rattle.std.proofs.lemmas.List.{length-set, length-replicate, get_or-replicate, ext_get_or}
 use Rattle.std.proofs.lemmas.Bool.{cases_eq, eq-eqb, ne_eqb}
-use Rattle.std.proofs.lemmas.Nat.Bits.{bit_at_set_same, bit_at_set_other, bit_at_clear_same, bit_at_clear_other}
+use Rattle.std.proofs.lemmas.Nat.{one_shl, pow_below}
+use Rattle.std.proofs.lemmas.Nat.Bits.{bit_at_and, bit_at_or, bit_at_lowest, bit_at-suc, bit_at-pow_same, bit_at-pow_other}
 use Rattle.std.proofs.lemmas.Bool.Decides.{nat_tests}
 use Rattle.std.proofs.lemmas.Grind.{common_steps}
 use Rattle.bits.specs.Bits.{bit_at, bits_of, BitPut, length_bits}
@@ -47,19 +48,30 @@ fill_next xs from g v low high =
     ∙ (fill_from_more xs from (g - from) v (omega arith)
     ∙ ap (λ k. paste xs from (replicate k v) k) more)
 
+-- a bit of the number that has the other bits
+complement : (k n i : ℕ) → n < 2 ^ k → i < k → (2 ^ k - 1 - n) / 2 ^ i % 2 ≡ 1 - n / 2 ^ i % 2
+complement zero n i fits within = absurd (omega arith)
+complement (suc k) n zero fits within = omega (arith, bit_at_lowest (2 ^ suc k - 1 - n), bit_at_lowest n, pow-suc 2 k)
+complement (suc k) n (suc i) fits within =
+    let half : (2 ^ suc k - 1 - n) / 2 ≡ 2 ^ k - 1 - n / 2 = omega (arith, pow-suc 2 k) in
+    bit_at-suc _ i ∙ ap (λ x. x / 2 ^ i % 2) half ∙ complement k (n / 2) i (omega (arith, pow-suc 2 k)) (omega arith) ∙ ap (λ d. 1 - d) (sym (bit_at-suc n i))
+
 -- a byte with bit k set, and with bit k cleared
 pub put_on : (b k : ℕ) → k < 8 → BitPut b (bit_or b ((1 * 2 ^ k) % 256)) k true
 put_on b k hk j hj =
+    let one : (1 * 2 ^ k) % 256 ≡ 2 ^ k = one_shl k 8 hk in
     ⊎_elim
-    (λ (e : j ≡ k). rw (e, eq-eqb k k refl) (ap (λ x. eqb x 1) (bit_at_set_same w8 b k hk)))
-    (λ (ne : j ≡ k → ⊥). rw (ne_eqb j k ne) (ap (λ x. eqb x 1) (bit_at_set_other w8 b k hk j ne)))
+    (λ (e : j ≡ k). rw (one, e, eq-eqb k k refl) (let same : bit_or b (2 ^ k) / 2 ^ k % 2 ≡ 1 = omega (arith, bit_at_or b (2 ^ k) k, bit_at-pow_same k) in ap (λ x. eqb x 1) same))
+    (λ (ne : j ≡ k → ⊥). rw (one, ne_eqb j k ne) (let other : bit_or b (2 ^ k) / 2 ^ j % 2 ≡ b / 2 ^ j % 2 = omega (arith, bit_at_or b (2 ^ k) j, bit_at-pow_other k j ne) in ap (λ x. eqb x 1) other))
     (cases_eq j k)
 
 pub put_off : (b k : ℕ) → k < 8 → BitPut b (bit_and b (255 - (1 * 2 ^ k) % 256)) k false
 put_off b k hk j hj =
+    let one : (1 * 2 ^ k) % 256 ≡ 2 ^ k = one_shl k 8 hk in
+    let flip : (255 - 2 ^ k) / 2 ^ j % 2 ≡ 1 - 2 ^ k / 2 ^ j % 2 = complement 8 (2 ^ k) j (pow_below k 8 hk) hj in
     ⊎_elim
-    (λ (e : j ≡ k). rw (e, eq-eqb k k refl) (ap (λ x. eqb x 1) (bit_at_clear_same w8 b k hk)))
-    (λ (ne : j ≡ k → ⊥). rw (ne_eqb j k ne) (ap (λ x. eqb x 1) (bit_at_clear_other w8 b k hk j hj ne)))
+    (λ (e : j ≡ k). rw (one, e, eq-eqb k k refl) (let same : bit_and b (255 - 2 ^ k) / 2 ^ k % 2 ≡ 0 = omega (arith, bit_at_and b (255 - 2 ^ k) k, rw e at flip, bit_at-pow_same k) in ap (λ x. eqb x 1) same))
+    (λ (ne : j ≡ k → ⊥). rw (one, ne_eqb j k ne) (let other : bit_and b (255 - 2 ^ k) / 2 ^ j % 2 ≡ b / 2 ^ j % 2 = omega (arith, bit_at_and b (255 - 2 ^ k) j, flip, bit_at-pow_other k j ne) in ap (λ x. eqb x 1) other))
     (cases_eq j k)
 
 -- zero bytes have no bit set
