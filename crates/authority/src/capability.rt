@@ -34,7 +34,8 @@ impl Capability {
         Some(Capability { authority })
     }
 
-    // Kept as they are, `new` and `numbers`: a constructor and a view by name, as the other constructors here.
+    // Kept as they are, `new` and `numbers`: `TryFrom` would ask for an error type where the callers want an Option, and `From`
+    // would say less than the name.
     // The capability of some numbers; none unless base is below top and the third is a permission number.
     pub fn new(numbers: Numbers) -> Option<Capability>
         ensures { result ≡ capability_of numbers.base numbers.top numbers.permissions }

@@ -5,7 +5,8 @@ use crate::capability::Capability;
 use crate::numbers::Numbers;
 
 // The byte k places after another; 0 past the end.
-// Kept as it is: a number and no Option, since `word_at` promises that bytes past the end count as 0.
+// Kept as it is: an Option would be no plainer, since each caller would put in the 0 that `word_at` promises for bytes past
+// the end.
 fn byte_after(bytes: &[u8], at: usize, k: usize) -> u8
     ensures { result ≡ slice_index bytes.now (at + k) }
 {
@@ -37,14 +38,15 @@ impl Numbers {
 }
 
 impl Capability {
-    // Kept as they are: an array and an Option by name, since `capability.image()` says what the bytes are, and `From` would not.
+    // Kept as they are: an array and an Option by name, since `capability.image()` says what the bytes are, and `From` and
+    // `TryFrom` would not.
     // Base in four bytes, low byte first, top likewise, the permission number, seven zero bytes.
     pub fn image(self) -> [u8; 16]
         ensures { result ≡ image_of self }
     {
         let [b0, b1, b2, b3] = self.base().to_le_bytes();
         let [t0, t1, t2, t3] = self.top().to_le_bytes();
-        let p = self.permissions().number() as u8;
+        let p = self.permissions().bits;
         [b0, b1, b2, b3, t0, t1, t2, t3, p, 0, 0, 0, 0, 0, 0, 0]
     }
 

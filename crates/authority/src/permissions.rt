@@ -25,6 +25,7 @@ impl Permissions {
         if number > ALL_PERMISSIONS {
             return None;
         }
+        // Kept: a cast, since the test above it has bounded the number.
         Some(Permissions { bits: number as u8 })
     }
 

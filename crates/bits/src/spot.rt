@@ -11,6 +11,7 @@ pub(crate) struct Spot {
 
 impl Spot {
     // The spot of place g.
+    // Kept by name: `From` would not say that the number is a place.
     pub(crate) fn of(g: usize) -> Spot
         ensures byte { result.byte ≡ g / 8 }
         ensures shift { result.shift ≡ g % 8 }

@@ -65,7 +65,7 @@ impl Layer {
 }
 
 // Why a part of the runtime denies: which denial it is, and which part it comes from.
-// Kept as methods: denial and layer belong together, and `From<F> for Denial` would give the one without the other.
+// Kept as methods, `code` too: denial and layer belong together, and `From<F> for Denial` would give the one without the other.
 pub trait Fault: Copy {
     ghost denial_of: { Self → Denial };
 

@@ -37,6 +37,7 @@ impl<M: TaggedMemory, B: Allocator> CompartmentMachine for Machine<M, B> {
         if self.memory.granules() != self.allocator.granules() {
             return Err(MachineFault::Sizes);
         }
+        // Kept: casts, since an operand fits both, and a memory has at most 1,024 granules.
         let base = 16 * self.allocator.allocate(granules.value as usize)? as u32;
         let granted = Capability::new(Numbers {
             base,

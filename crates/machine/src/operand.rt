@@ -16,6 +16,7 @@ pub(crate) struct Operand {
 
 impl Operand {
     // The operand that a number is, if it is one.
+    // Kept by name: `of`, as of a `Slot`, which two numbers make; `TryFrom` would be no plainer.
     pub(crate) fn of(n: u32) -> Result<Operand, MachineFault>
         ensures { MatchResult result (λ o. (is_operand n ≡ true) × (o.value ≡ n)) (λ f. (is_operand n ≡ false) × (f ≡ BadNum)) }
     {

@@ -12,7 +12,7 @@ pub const COMPARTMENTS: usize = 8;
 
 // The registers of the eight compartments.
 // Kept as it is: plain arrays, since the machine takes no memory from a heap, and on two levels, since the check does not
-// cover an element of an array of arrays that have ghost fields.
+// cover (tried) an element of an array of arrays whose elements have ghost fields.
 #[derive(Clone, Copy, Debug, PartialEq, Eq)]
 pub struct Registers {
     compartments: [Compartment; COMPARTMENTS],

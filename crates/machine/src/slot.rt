@@ -17,6 +17,7 @@ pub(crate) struct Slot {
 
 impl Slot {
     // The register that two numbers name, if there is such.
+    // Kept by name: two numbers make it, and `TryFrom` takes one.
     pub(crate) fn of(compartment: u32, register: u32) -> Result<Slot, MachineFault>
         ensures { MatchResult result (λ s. (is_register compartment register ≡ true) × (s.compartment ≡ compartment) × (s.register ≡ register)) (λ f. (is_register compartment register ≡ false) × (f ≡ BadNum)) }
     {

@@ -13,7 +13,7 @@ use authority::capability::Capability;
 use authority::numbers::Numbers;
 
 // Tagged memory over two lent buffers: 16 bytes of data for each granule, and its tag as one bit.
-// The number of granules is by the rules 0 where the sizes of the buffers do not fit.
+// Kept as it is: a number of granules and no Option, since by the rules there are 0 where the sizes of the buffers do not fit.
 // Kept as it is: bytes and tags apart, since a caller lends exactly these two buffers, of these layouts.
 #[derive(Drop)]
 pub struct Flat<'a> {

@@ -24,7 +24,8 @@ mod tests;
 pub struct NextFit<'a> {
     used: &'a mut [u8],
     firsts: &'a mut [u8],
-    // The number of granules; 0 by the rules where the sizes of the buffers do not fit.
+    // The number of granules.
+    // Kept as it is: a number and no Option, since by the rules there are 0 granules where the sizes of the buffers do not fit.
     granules: usize,
     mark: usize,
     ghost sized: { granules ≡ granules_of (length used.now) (length firsts.now) },

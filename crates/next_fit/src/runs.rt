@@ -1,5 +1,6 @@
 // Runs of granules.
-// Kept as it is: `map_of` of the two buffers in each clause, since the trait's `cells` is that map, and the bits are read by it.
+// Kept as it is, here and in search.rt: `map_of` of the two buffers in each clause; a name for it would be no plainer, since
+// the trait's `cells` is that very term and each lemma speaks of the two buffers.
 ghost use Rattle.std.specs.Prelude.{◌≡◌, ◌-◌, true, false, count_by, slice_index_or, slice_set};
 ghost use Rattle.allocator.specs.declared.cell.Cell.TheVariants.{Free};
 ghost use Rattle.std.specs.List.{prefix_len, range_with_len};

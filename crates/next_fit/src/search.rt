@@ -43,7 +43,8 @@ impl<'a> NextFit<'a> {
         ensures within { IfSome result (λ x. x.0 + n ≤ length (map_of self.now.used.now self.now.firsts.now)) }
         ensures value { result ≡ next_fit (map_of self.now.used.now self.now.firsts.now) self.now.mark n }
     {
-        // Kept as a `match`: of `or_else` the check knows nothing where the first search finds none.
+        // Kept as a `match`: tried with `or_else`, and the proof did not close: the check knows nothing of its closure where the
+        // first search finds none.
         let b = match self.seek(n, self.mark) {
             Some(b) => b,
             None => self.seek(n, 0)?,

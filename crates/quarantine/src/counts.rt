@@ -3,7 +3,8 @@ ghost use Rattle.std.specs.Prelude.{◌≡◌, ◌+◌, ◌-◌, ◌<◌, ◌≤
 ghost use Rattle.quarantine.specs.Runs.{most_runs};
 
 // The painted runs are among those held.
-// Kept as they are: three methods that answer counts with none painted, each with what it holds.
+// Kept as they are: the clauses `painted` of three methods that answer counts with none painted; a type of such counts would
+// be no plainer, since the quarantine holds counts of both kinds.
 #[derive(Clone, Copy, Debug, PartialEq, Eq)]
 pub(crate) struct Counts {
     pub(crate) painted: usize,

@@ -23,7 +23,8 @@ mod turns;
 
 // `runs` holds the painted runs and then the waiting runs, each in the order freed.
 // Bit g of `shadow` says that granule g is painted; a sweep at rest has painted nothing.
-// Kept as it is: runs, painted runs and bitmap lie in plain arrays, since the project uses no heap.
+// Kept as it is: runs, painted runs and bitmap lie in plain arrays, by a rule of the project: the quarantine takes no memory
+// from a heap.
 #[derive(Drop)]
 pub struct Quarantine {
     runs: [Run; MOST_RUNS],

@@ -36,6 +36,7 @@ pub(crate) fn read_permissions(text: &[u8]) -> Option<u32>
         _ => {}
     }
     let mut permissions = 0;
+    // Kept: a cast, since each byte is a character.
     for byte in text {
         permissions = add_letter(permissions, *byte as char)?;
     }

@@ -41,7 +41,8 @@ pub fn read_line(line: &[u8], number: usize) -> Result<Call, Place>
 mod tests {
     use super::*;
 
-    // The number of the first wrong word; 0 if the line reads as a call: a place counts words from 1.
+    // The number of the first wrong word; 0 if the line reads as a call.
+    // Kept as it is: 0 for none, since a place counts words from 1.
     fn wrong_word(line: &[u8]) -> usize {
         read_line(line, 1).err().map_or(0, |place| place.word)
     }

@@ -36,11 +36,11 @@ impl fmt::Display for Part<'_> {
     }
 }
 
-// Kept as they are: arrays of fixed size, the program's own memory.
 // Runs a script on a fresh machine of 32 granules, flat memory under a quota of 24 over next fit, and gives what is printed.
 pub fn run_text(heap: Global, script: &[u8]) -> Result<String, AllocError>
     ensures { IfOk result (λ text. Prints script.now (string_bytes text)) }
 {
+    // Kept as they are: arrays of fixed size, since the sizes are the program's, for 32 granules.
     let (mut bytes, mut tags) = ([0u8; 512], [0u8; 4]);
     let (mut used, mut firsts) = ([0u8; 4], [0u8; 4]);
     let memory = Flat::new(&mut bytes, &mut tags);
@@ -67,7 +67,8 @@ mod tests {
     use machine::compartment_machine::CompartmentMachine;
     use std::test::Fail;
 
-    // The code and the layer of a first grant over buffers of these sizes, or 0 and `-`.
+    // The code and the layer of a first grant over buffers of these sizes.
+    // Kept as it is: 0 and `-`, which no denial has, where the grant is accepted.
     fn first_grant(tags: &mut [u8], used: &mut [u8], firsts: &mut [u8]) -> (u8, char) {
         let mut bytes = [0u8; 512];
         let mut machine = Machine::new(Flat::new(&mut bytes, tags), NextFit::new(used, firsts));

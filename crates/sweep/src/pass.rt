@@ -1,6 +1,6 @@
 // Passing granules: capabilities whose base is painted lose their tags.
-// Kept as they are: memory and quarantine as two parameters, since the machine holds them apart and lends the one to be
-// written and the other to be read.
+// Kept as they are, here and in ending.rt: memory and quarantine as two parameters, since the one is written and the other
+// only read, and no type holds both.
 ghost use Rattle.std.specs.Prelude.{◌≡◌, ◌/◌, false, ◌&&◌, slice_index_or};
 ghost use Rattle.quarantine.specs.Kept.{painted_of};
 ghost use Rattle.quarantine.specs.Runs.{in_runs};
@@ -50,7 +50,7 @@ pub fn pass<M: TaggedMemory>(memory: &mut M, quarantine: &Quarantine, from: usiz
     ensures bytes { M.TaggedMemory.bytes memory.new ≡ M.TaggedMemory.bytes memory.old }
     ensures tags { M.TaggedMemory.tags memory.new ≡ swept_tags (painted_of quarantine.now) (M.TaggedMemory.bytes memory.old) from count (M.TaggedMemory.tags memory.old) }
 {
-    // A `for` over numbers: a memory lends no slice of granules.
+    // Kept as it is: a `for` over numbers, since a memory lends no slice of granules.
     let end = from.saturating_add(count).min(memory.granules());
     for g in from..end {
         pass_one(memory, quarantine, g);
