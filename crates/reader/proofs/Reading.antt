@@ -1,53 +1,40 @@
 -- The lines of a script, one after another.
-use Rattle.std.proofs.Common.{◌≡◌, ℕ, ◌+◌, ◌<◌, ◌≤◌, Bool, true, false, eqb, List, [], ◌∷◌, ◌++◌, length, get_or, take, Some, None, Option, sym, refl, ap, ◌∙◌, subst, ◌⊎◌, inl, inr, ⊎_elim, arith}
-use Rattle.std.specs.List as L
-use Rattle.std.specs.List.{slice_split, enumerate_from}
-use Rattle.std.specs.declared.slice.Split.{Split}
-use Rattle.std.specs.declared.iter.Enumerate.{Enumerate}
-use Rattle.std.specs.Slice.Iter.{split_rest, split_done, split_steps}
-use Rattle.std.specs.Iterator.{Yields}
-use Rattle.std.specs.Iterator.Adapters.{enumerate_source, enumerate_count, enumerate_steps}
-use Rattle.std.proofs.lemmas.Iterator.{YieldsList}
-use Rattle.std.proofs.lemmas.Iterator.Consumers.{YieldsList-from_enumerate, YieldsList-turn, YieldsList-end}
-use Rattle.std.proofs.lemmas.Iterator.Splits.{YieldsList-from_slice_split}
-use Rattle.std.proofs.lemmas.List.FromFn.{length-enumerate_from, get_or-enumerate_from}
-use denote.Ref.{Bor}
-use Rattle.reader.proofs.Splits.{Test, CutsAt, onto_same}
-use Rattle.std.proofs.lemmas.List.{take_more, take_all, length-take-le}
+use Rattle.std.proofs.Common.{◌≡◌, ℕ, suc, ◌+◌, ◌-◌, ◌<◌, ◌≤◌, false, eqb, List, [], ◌∷◌, ◌++◌, length, get_or, take, drop, sym, refl, ap, ◌∙◌, subst, arith}
+use Rattle.std.specs.List.{All}
+use Rattle.std.proofs.lemmas.List.{append_assoc, take-append-drop, take_more, take_all, drop-drop, length-drop, length-take-le}
+use Rattle.std.proofs.lemmas.Grind.{common_steps}
 use Rattle.reader.specs.declared.script.Entry.{Entry}
-use Rattle.reader.specs.Lines.{onto_first}
 use Rattle.reader.specs.Scripts.{lines_of, NumberedLine, numbered_from, numbered_lines, Readings}
 use Rattle.reader.specs.Steps.{LinePushed}
 
--- the parts between bytes 10, as std cuts them, are the lines, or these and an empty part
-line_parts : (xs : List ℕ) → (slice_split (λ b. eqb b 10) xs ≡ lines_of xs) ⊎ (slice_split (λ b. eqb b 10) xs ≡ lines_of xs ++ ([] ∷ []))
-line_parts [] = inr refl
-line_parts (c ∷ cs) = go (eqb c 10) refl (line_parts cs)
+-- bytes with no end of a line among them
+abbrev pub OneLine : List ℕ → Type 0
+OneLine w = All (λ b. eqb b 10 ≡ false) w
+
+one_head : (c : ℕ) (cs : List ℕ) → OneLine (c ∷ cs) → eqb c 10 ≡ false
+one_head c cs h = h 0 c (omega arith)
+
+one_tail : (c : ℕ) (cs : List ℕ) → OneLine (c ∷ cs) → OneLine cs
+one_tail c cs h = λ k d l. h (suc k) d (omega arith)
+
+-- a line that a byte 10 ends, and the lines behind it
+lines_at : (w rest : List ℕ) → OneLine w → lines_of (w ++ (10 ∷ rest)) ≡ w ∷ lines_of rest
+lines_at [] rest h = refl
+lines_at (c ∷ cs) rest h = rw (one_head c cs h, lines_at cs rest (one_tail c cs h)) refl
+
+-- the last line, if there is one
+lines_end : (n : ℕ) (w : List ℕ) → OneLine w → numbered_from n (lines_of w) ≡ numbered_from n (w ∷ [])
+lines_end n [] h = refl
+lines_end n (c ∷ cs) h = ap (numbered_from n) (go c cs h)
   where
-    longer : (ls : List (List ℕ)) → (L.onto_first c (ls ++ ([] ∷ [])) ≡ onto_first c ls) ⊎ (L.onto_first c (ls ++ ([] ∷ [])) ≡ onto_first c ls ++ ([] ∷ []))
-    longer [] = inl refl
-    longer (l ∷ ls) = inr refl
+    go : (c : ℕ) (cs : List ℕ) → OneLine (c ∷ cs) → lines_of (c ∷ cs) ≡ (c ∷ cs) ∷ []
+    go c [] h = rw (one_head c [] h) refl
+    go c (d ∷ ds) h = rw (one_head c (d ∷ ds) h, go d ds (one_tail c (d ∷ ds) h)) refl
 
-    go : (b : Bool) → eqb c 10 ≡ b → (slice_split (λ b. eqb b 10) cs ≡ lines_of cs) ⊎ (slice_split (λ b. eqb b 10) cs ≡ lines_of cs ++ ([] ∷ [])) → (slice_split (λ b. eqb b 10) (c ∷ cs) ≡ lines_of (c ∷ cs)) ⊎ (slice_split (λ b. eqb b 10) (c ∷ cs) ≡ lines_of (c ∷ cs) ++ ([] ∷ []))
-    go true e (inl h) = inl (rw (e, h) refl)
-    go true e (inr h) = inr (rw (e, h) refl)
-    go false e (inl h) = inl (rw (e, h) (onto_same c (lines_of cs)))
-    go false e (inr h) = rw (e, h) (longer (lines_of cs))
-
-numbered_empty : (n : ℕ) (ls : List (List ℕ)) → numbered_from n (ls ++ ([] ∷ [])) ≡ numbered_from n ls
-numbered_empty n [] = refl
-numbered_empty n ([] ∷ ls) = numbered_empty (n + 1) ls
-numbered_empty n ((c ∷ cs) ∷ ls) = ap (λ ks. record { number = n; bytes = c ∷ cs } ∷ ks) (numbered_empty (n + 1) ls)
-
-numbered_parts : (xs : List ℕ) → numbered_from 1 (slice_split (λ b. eqb b 10) xs) ≡ numbered_lines xs
-numbered_parts xs = ⊎_elim (λ e. ap (numbered_from 1) e) (λ e. ap (numbered_from 1) e ∙ numbered_empty 1 (lines_of xs)) (line_parts xs)
-
--- one line more
-numbered_push : (n : ℕ) (ls : List (List ℕ)) (w : List ℕ) → numbered_from n (ls ++ (w ∷ [])) ≡ numbered_from n ls ++ numbered_from (n + length ls) (w ∷ [])
-numbered_push n [] w = ap (λ m. numbered_from m (w ∷ [])) (omega arith)
-numbered_push n ([] ∷ ls) w = numbered_push (n + 1) ls w ∙ ap (λ m. numbered_from (n + 1) ls ++ numbered_from m (w ∷ [])) (omega arith)
-numbered_push n ((c ∷ cs) ∷ ls) w =
-    ap (λ ks. record { number = n; bytes = c ∷ cs } ∷ ks) (numbered_push (n + 1) ls w ∙ ap (λ m. numbered_from (n + 1) ls ++ numbered_from m (w ∷ [])) (omega arith))
+-- a line and those after it
+numbered_cons : (n : ℕ) (w : List ℕ) (ls : List (List ℕ)) → numbered_from n (w ∷ ls) ≡ numbered_from n (w ∷ []) ++ numbered_from (n + 1) ls
+numbered_cons n [] ls = refl
+numbered_cons n (c ∷ cs) ls = refl
 
 readings_append : (ls ks : List NumberedLine) (es fs : List Entry) → Readings ls es → Readings ks fs → Readings (ls ++ ks) (es ++ fs)
 readings_append [] ks [] fs p q = q
@@ -55,42 +42,63 @@ readings_append [] ks (e ∷ es) fs p q = absurd p
 readings_append (l ∷ ls) ks [] fs p q = absurd p
 readings_append (l ∷ ls) ks (e ∷ es) fs p q = (p.0, p.1, readings_append ls ks es fs p.2 q)
 
--- the entries after a part more, the part at i, whose number is n
-pub one_read : (ws : List (List ℕ)) (i j n : ℕ) (w : List ℕ) (es fs : List Entry) → i < length ws → w ≡ get_or ws i w → n ≡ i + 1 → j ≡ i + 1 → Readings (numbered_from 1 (take i ws)) es → LinePushed w n es fs → Readings (numbered_from 1 (take j ws)) fs
-one_read ws i j n w es fs h e k m r p =
-    let t : take j ws ≡ take i ws ++ (w ∷ []) = ap (λ k. take k ws) m ∙ (take_more ws i w h ∙ ap (λ v. take i ws ++ (v ∷ [])) (sym e)) in
-    let l : 1 + length (take i ws) ≡ n = omega (arith, length-take-le i ws) in
-    let s : numbered_from 1 (take j ws) ≡ numbered_from 1 (take i ws) ++ numbered_from n (w ∷ []) = ap (numbered_from 1) t ∙ (numbered_push 1 (take i ws) w ∙ ap (λ k. numbered_from 1 (take i ws) ++ numbered_from k (w ∷ [])) l) in
-    subst (λ (ls : List NumberedLine). Readings ls fs) (sym s) (subst (λ (xs : List Entry). Readings (numbered_from 1 (take i ws) ++ numbered_from n (w ∷ [])) xs) (sym p.2) (readings_append (numbered_from 1 (take i ws)) (numbered_from n (w ∷ [])) es p.0 r p.1))
+-- the entries so far are those of the lines before a byte of the script, and line n begins there and has not ended before byte i
+pub record ReadSoFar (script : List ℕ) (start i n : ℕ) (es : List Entry) : Type 0 where
+  pub front : List NumberedLine
+  pub whole : numbered_lines script ≡ front ++ numbered_from n (lines_of (drop start script))
+  pub read : Readings front es
+  pub line : OneLine (take (i - start) (drop start script))
+  pub within : (start ≤ i) × (n ≤ i + 1)
 
--- the loop over the parts with their places
-parts_road : (g : Test) (script : List ℕ) (s : Enumerate (Split ℕ (Unit {0}))) → split_rest (enumerate_source s) ≡ script → split_done (enumerate_source s) ≡ false → enumerate_count s ≡ 0
-    → CutsAt 10 g → YieldsList {B = ℕ × List ℕ} (enumerate_steps (split_steps g)) (λ p. (p.0, p.1.now)) s (enumerate_from 0 (slice_split (λ b. eqb b 10) script))
-parts_road g script s r d n k = YieldsList-from_enumerate (YieldsList-from_slice_split g (λ b. eqb b 10) script r d refl k) n
+pub none_read : (script : List ℕ) → ReadSoFar script 0 0 1 []
+none_read script = record { front = []; whole = refl; read = tt; line = λ k d l. absurd (omega arith); within = (omega arith, omega arith) }
 
--- the loop's item is the next part, with its place
-pub next_part : (g : Test) (script : List ℕ) (s t u : Enumerate (Split ℕ (Unit {0}))) (xs : List (ℕ × Bor (List ℕ))) (o : Option (ℕ × Bor (List ℕ))) (i : ℕ) (w : Bor (List ℕ))
-    → split_rest (enumerate_source s) ≡ script → split_done (enumerate_source s) ≡ false → enumerate_count s ≡ 0 → Yields (enumerate_steps (split_steps g)) s xs t → o ≡ Some (i, w) → enumerate_steps (split_steps g) t o u
-    → CutsAt 10 g
-    → (length xs < length (slice_split (λ b. eqb b 10) script)) × (i ≡ length xs) × (w.now ≡ get_or (slice_split (λ b. eqb b 10) script) (length xs) w.now)
-next_part g script s t u xs o i w r d n y e h k =
-    let parts = slice_split (λ b. eqb b 10) script in
-    let a = YieldsList-turn (parts_road g script s r d n k) xs t y o u (i, w) e h in
-    let l : length xs < length parts = omega (arith, a.0, length-enumerate_from 0 parts) in
-    let q = a.1 ∙ get_or-enumerate_from 0 parts (length xs) (i, w.now) l in
-    let m : i ≡ 0 + length xs = ap (λ p. p.0) q in
-    (l, omega arith, ap (λ p. p.1) q)
+-- the byte at i
+at_start : (script : List ℕ) (start i : ℕ) → start ≤ i → i < length script → (i - start < length (drop start script)) × (get_or (drop start script) (i - start) 0 ≡ get_or script i 0)
+at_start script start i s h = (omega (arith, length-drop start script), grind (arith, common_steps))
 
-pub no_parts : (g : Test) (script : List ℕ) (s t u : Enumerate (Split ℕ (Unit {0}))) (xs : List (ℕ × Bor (List ℕ))) (o : Option (ℕ × Bor (List ℕ)))
-    → split_rest (enumerate_source s) ≡ script → split_done (enumerate_source s) ≡ false → enumerate_count s ≡ 0 → Yields (enumerate_steps (split_steps g)) s xs t → o ≡ None → enumerate_steps (split_steps g) t o u
-    → CutsAt 10 g
-    → length (slice_split (λ b. eqb b 10) script) ≤ length xs
-no_parts g script s t u xs o r d n y e h k =
-    let a = YieldsList-end (parts_road g script s r d n k) xs t y o u e h in
-    omega (arith, a.1, length-enumerate_from 0 (slice_split (λ b. eqb b 10) script))
+-- a byte that ends no line
+pub byte_read : (script : List ℕ) (start i n : ℕ) (es : List Entry) → i < length script → eqb (get_or script i 0) 10 ≡ false → ReadSoFar script start i n es → ReadSoFar script start (i + 1) n es
+byte_read script start i n es h e r =
+    let a = at_start script start i r.within.0 h in
+    let more : take ((i + 1) - start) (drop start script) ≡ take (i - start) (drop start script) ++ (get_or script i 0 ∷ []) =
+    ap (λ k. take k (drop start script)) (omega (arith, r.within.0)) ∙ (take_more (drop start script) (i - start) 0 a.0 ∙ ap (λ b. take (i - start) (drop start script) ++ (b ∷ [])) a.1) in
+    record { front = r.front; whole = r.whole; read = r.read; line = subst OneLine (sym more) (one_more (take (i - start) (drop start script)) (get_or script i 0) r.line e); within = (omega arith, omega arith) }
+  where
+    one_more : (w : List ℕ) (b : ℕ) → OneLine w → eqb b 10 ≡ false → OneLine (w ++ (b ∷ []))
+    one_more w b h e = λ k d l. grind (arith, common_steps)
 
--- the entries after all parts
-pub all_read : (script : List ℕ) (i : ℕ) (es : List Entry) → length (slice_split (λ b. eqb b 10) script) ≤ i → Readings (numbered_from 1 (take i (slice_split (λ b. eqb b 10) script))) es → Readings (numbered_lines script) es
-all_read script i es h r =
-    let e : numbered_from 1 (take i (slice_split (λ b. eqb b 10) script)) ≡ numbered_lines script = ap (numbered_from 1) (take_all i (slice_split (λ b. eqb b 10) script) h) ∙ numbered_parts script in
-    subst (λ (ls : List NumberedLine). Readings ls es) e r
+-- the bytes before the byte at i, it, and those behind it
+parted : (xs : List ℕ) (k : ℕ) → k < length xs → xs ≡ take k xs ++ (get_or xs k 0 ∷ drop (k + 1) xs)
+parted xs k h = sym (take-append-drop (k + 1) xs) ∙ (ap (λ ys. ys ++ drop (k + 1) xs) (take_more xs k 0 h) ∙ append_assoc (take k xs) (get_or xs k 0 ∷ []) (drop (k + 1) xs))
+
+-- the byte that ends line n, whose entry is pushed
+pub line_read : (script : List ℕ) (start i n : ℕ) (es fs : List Entry) → i < length script → get_or script i 0 ≡ 10 → ReadSoFar script start i n es
+    → LinePushed (take (i - start) (drop start script)) n es fs → ReadSoFar script (i + 1) (i + 1) (n + 1) fs
+line_read script start i n es fs h e r p =
+    let a = at_start script start i r.within.0 h in
+    let w : List ℕ = take (i - start) (drop start script) in
+    let rest : List NumberedLine = numbered_from (n + 1) (lines_of (drop (i + 1) script)) in
+    let behind : drop ((i - start) + 1) (drop start script) ≡ drop (i + 1) script = drop-drop ((i - start) + 1) start script ∙ ap (λ k. drop k script) (omega (arith, r.within.0)) in
+    let cut : drop start script ≡ w ++ (10 ∷ drop (i + 1) script) = parted (drop start script) (i - start) a.0 ∙ (λ j. w ++ ((a.1 ∙ e) j ∷ behind j)) in
+    let lines : numbered_from n (lines_of (drop start script)) ≡ numbered_from n (w ∷ []) ++ rest =
+    ap (λ xs. numbered_from n (lines_of xs)) cut ∙ (ap (numbered_from n) (lines_at w (drop (i + 1) script) r.line) ∙ numbered_cons n w (lines_of (drop (i + 1) script))) in
+    record {
+      front = r.front ++ numbered_from n (w ∷ []);
+      whole = r.whole ∙ (ap (λ ls. r.front ++ ls) lines ∙ sym (append_assoc r.front (numbered_from n (w ∷ [])) rest));
+      read = subst (λ (xs : List Entry). Readings (r.front ++ numbered_from n (w ∷ [])) xs) (sym p.2) (readings_append r.front (numbered_from n (w ∷ [])) es p.0 r.read p.1);
+      line = λ k d l. absurd (omega (arith, length-take-le ((i + 1) - (i + 1)) (drop (i + 1) script) (omega arith)));
+      within = (omega arith, omega (arith, r.within.1));
+    }
+
+-- what follows the last byte 10, whose entry is pushed
+pub last_read : (script : List ℕ) (start i n : ℕ) (es fs : List Entry) → length script ≤ i → ReadSoFar script start i n es
+    → LinePushed (take (length script - start) (drop start script)) n es fs → Readings (numbered_lines script) fs
+last_read script start i n es fs h r p =
+    let w : List ℕ = take (length script - start) (drop start script) in
+    let all : w ≡ drop start script = take_all (length script - start) (drop start script) (omega (arith, length-drop start script)) in
+    let same : take (i - start) (drop start script) ≡ w = take_all (i - start) (drop start script) (omega (arith, length-drop start script)) ∙ sym all in
+    let line : OneLine w = subst OneLine same r.line in
+    let lines : numbered_lines script ≡ r.front ++ numbered_from n (w ∷ []) =
+    r.whole ∙ ap (λ ls. r.front ++ ls) (ap (λ xs. numbered_from n (lines_of xs)) (sym all) ∙ lines_end n w line) in
+    subst (λ (ls : List NumberedLine). Readings ls fs) (sym lines) (subst (λ (xs : List Entry). Readings (r.front ++ numbered_from n (w ∷ [])) xs) (sym p.2) (readings_append r.front (numbered_from n (w ∷ [])) es p.0 r.read p.1))

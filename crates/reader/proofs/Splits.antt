@@ -1,5 +1,5 @@
 -- The words of a line.
-use Rattle.std.proofs.Common.{◌≡◌, ℕ, Bool, true, false, cond, not, eqb, List, [], ◌∷◌, ◌++◌, length, Some, None, Option, sym, refl, ap, ◌∙◌, arith}
+use Rattle.std.proofs.Common.{◌≡◌, ℕ, ◌+◌, ◌<◌, ◌≤◌, Bool, true, false, cond, not, eqb, List, [], ◌∷◌, ◌++◌, length, Some, None, Option, sym, refl, ap, ◌∙◌, arith}
 use Rattle.std.specs.List as L
 use Rattle.std.specs.List.{slice_split, join_with_byte, list_all, IsFirstMatchOrLen, All}
 use Rattle.std.specs.declared.slice.Split.{Split}
@@ -7,9 +7,9 @@ use Rattle.std.specs.Slice.Iter.{split_rest, split_done, split_steps}
 use Rattle.std.specs.Bool.{MatchBool}
 use Rattle.std.specs.Fn.{ComputesKey, CalledAt}
 use Rattle.std.proofs.lemmas.Fn.{always_returns_same}
-use Rattle.std.specs.Option.{is_some}
 use denote.Ref.{Bor}
 use denote.Param.Members.{Mut}
+use Rattle.std.proofs.lemmas.List.{length-append}
 use Rattle.std.proofs.lemmas.List.Sums.{AllPass-from_list_all}
 use Rattle.std.proofs.lemmas.List.Splits.{slice_split_none, slice_split_at, join_with_byte-slice_split}
 use Rattle.std.proofs.lemmas.Grind.{common_steps}
@@ -66,13 +66,55 @@ pub no_words : (g : Test) (s t : Split ℕ (Unit {0})) (r : Option (Bor (List �
 no_words g s t None h e = ap (λ b. cond b [] (split (split_rest s))) h.0
 no_words g s t (Some y) h e = absurd (let z : ◌≡◌ {A = ℕ} 0 1 = cc in omega arith)
 
-pub one_word : (g : Test) (s t : Split ℕ (Unit {0})) (r : Option (Bor (List ℕ))) → CutsAt 32 g → split_steps g s r t → is_some r ≡ true → (w : List ℕ) × (words_left s ≡ w ∷ words_left t)
-one_word g s t (Some x) k h e = (x.now, word_taken g s t (Some x) x k h refl)
-one_word g s t None k h e = absurd (let z : ◌≡◌ {A = ℕ} 0 1 = cc in omega arith)
+-- the bytes that an iterator over a line has left, with one more for the space before them
+abbrev pub bytes_left : Split ℕ (Unit {0}) → ℕ
+bytes_left s = cond (split_done s) 0 (length (split_rest s) + 1)
+
+pub bytes_taken : (g : Test) (s t : Split ℕ (Unit {0})) (r : Option (Bor (List ℕ))) (x : Bor (List ℕ)) → split_steps g s r t → r ≡ Some x → bytes_left s ≡ length x.now + 1 + bytes_left t
+bytes_taken g s t (Some y) x h e =
+    let y_is : length y.now ≡ length x.now = cc in
+    ap (λ b. cond b 0 (length (split_rest s) + 1)) h.0 ∙ go (split_done t) h.1 ∙ ap (λ n. n + 1 + bytes_left t) y_is
+  where
+    go : (b : Bool) → MatchBool b (split_rest s ≡ y.now) ((z : ℕ) × (split_rest s ≡ y.now ++ (z ∷ split_rest t))) → length (split_rest s) + 1 ≡ length y.now + 1 + cond b 0 (length (split_rest t) + 1)
+    go true m = omega (arith, ap length m)
+    go false m = omega (arith, ap length m.1, length-append y.now (m.0 ∷ split_rest t))
+bytes_taken g s t None x h e = absurd (let z : ◌≡◌ {A = ℕ} 0 1 = cc in omega arith)
+
+-- what is left has a first word, be it empty
+has_word : (xs : List ℕ) → (w : List ℕ) × (R : List (List ℕ)) × (split xs ≡ w ∷ R)
+has_word [] = ([], [], refl)
+has_word (c ∷ cs) = go (eqb c 32) (split cs)
+  where
+    longer : (ws : List (List ℕ)) → (w : List ℕ) × (R : List (List ℕ)) × (onto_first c ws ≡ w ∷ R)
+    longer [] = (c ∷ [], [], refl)
+    longer (w ∷ ws) = (c ∷ w, ws, refl)
+
+    go : (b : Bool) (ws : List (List ℕ)) → (w : List ℕ) × (R : List (List ℕ)) × (cond b ([] ∷ ws) (onto_first c ws) ≡ w ∷ R)
+    go true ws = ([], ws, refl)
+    go false ws = longer ws
+
+pub some_left : (s : Split ℕ (Unit {0})) → 0 < bytes_left s → (w : List ℕ) × (R : List (List ℕ)) × (words_left s ≡ w ∷ R)
+some_left s h = go (split_done s) h
+  where
+    go : (b : Bool) → 0 < cond b 0 (length (split_rest s) + 1) → (w : List ℕ) × (R : List (List ℕ)) × (cond b [] (split (split_rest s)) ≡ w ∷ R)
+    go true h = absurd (omega arith)
+    go false h = has_word (split_rest s)
+
+pub none_left : (s : Split ℕ (Unit {0})) → bytes_left s ≤ 0 → words_left s ≡ []
+none_left s h = go (split_done s) h
+  where
+    go : (b : Bool) → cond b 0 (length (split_rest s) + 1) ≤ 0 → cond b [] (split (split_rest s)) ≡ []
+    go true h = refl
+    go false h = absurd (omega arith)
 
 -- at the start of a line
 pub first_word : (g : Test) (s t : Split ℕ (Unit {0})) (r : Option (Bor (List ℕ))) (x : Bor (List ℕ)) (line : List ℕ) → split_rest s ≡ line → split_done s ≡ false → CutsAt 32 g → split_steps g s r t → r ≡ Some x → split line ≡ x.now ∷ words_left t
 first_word g s t r x line rest done k h e = sym (λ i. cond (done i) [] (split (rest i))) ∙ word_taken g s t r x k h e
+
+pub first_bytes : (g : Test) (s t : Split ℕ (Unit {0})) (r : Option (Bor (List ℕ))) (x : Bor (List ℕ)) (line : List ℕ) → split_rest s ≡ line → split_done s ≡ false → split_steps g s r t → r ≡ Some x → length x.now + bytes_left t ≡ length line
+first_bytes g s t r x line rest done h e =
+    let all : bytes_left s ≡ length line + 1 = λ i. cond (done i) 0 (length (rest i) + 1) in
+    omega (arith, all, bytes_taken g s t r x h e)
 
 -- a line is its words with spaces between
 joined : (w : List ℕ) (ws : List (List ℕ)) → join_with_byte 32 (w ∷ ws) ≡ with_spaces w ws

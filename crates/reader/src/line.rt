@@ -1,19 +1,16 @@
-ghost use Rattle.std.specs.Prelude.{◌≡◌, true, None, is_some, IfErr, OnOk};
+ghost use Rattle.std.specs.Prelude.{◌≡◌, ◌≤◌, length, nat_lt};
 ghost use Rattle.reader.specs.Lines.{Reads, ReadsOnce};
 
 use crate::place::Place;
 use crate::word::Word;
 use call::Call;
 
-// Nothing if a line has no more words, or the place of a word that is too many.
-fn no_more(word: Option<&[u8]>, place: Place) -> Result<(), Place>
-    ensures ok { OnOk result (word.entry ≡ None) }
-    ensures err { IfErr result (λ at. (at ≡ place) × (is_some word.entry ≡ true)) }
+// Whether a line goes on after a word that ends before the byte `end`.
+fn goes_on(line: &[u8], end: usize) -> bool
+    requires { end ≤ length line.now }
+    ensures { result ≡ nat_lt end (length line.now) }
 {
-    match word {
-        None => Ok(()),
-        Some(_) => Err(place),
-    }
+    end < line.len()
 }
 
 // The call whose text a line is, or the place of the first word that is wrong, missing or too many.
@@ -28,12 +25,17 @@ pub fn read_line(line: &[u8], number: usize) -> Result<Call, Place>
     let kinds = verb.kinds();
     // Kept as it is: a plain array of six, the most operands of a verb, since reading a line never asks for memory.
     let mut operands = [0; 6];
+    let mut end = text.len();
     for (i, kind) in kinds.iter().enumerate() {
         let place = Place::of_operand(number, i);
         let text = words.next().ok_or(place)?;
         operands[i] = Word::operand(*kind, text, place).value()?;
+        end += 1 + text.len();
     }
-    no_more(words.next(), Place::of_operand(number, kinds.len()))?;
+    // Kept as it is: a word that is too many is known by the bytes that are left, so that its end is not looked for.
+    if goes_on(line, end) {
+        return Err(Place::of_operand(number, kinds.len()));
+    }
     Ok(verb.call(&operands))
 }
 

@@ -1,16 +1,19 @@
-use Rattle.std.proofs.Common.{◌+◌, eqb, length, arith, rules, vec_items}
-use borrow.Author.Tests.{tests}
-use Rattle.std.specs.List.{slice_split}
-use Rattle.std.proofs.lemmas.List.{length_push}
-use Rattle.reader.proofs.Reading.{next_part, no_parts, one_read, all_read}
+use Rattle.std.proofs.Common.{◌+◌, rules}
+use Rattle.reader.proofs.Reading.{none_read, byte_read, line_read, last_read}
 use Rattle.reader.proofs.script.read_lines.Goals as goal
+use Rattle.reader.proofs.script.read_lines.Goals.{then-byte-eq10+in_ok-push_line, else-byte-eq10}
+
+pub loop-i-init : goal.loop-i-init
+loop-i-init c = rw c.new-entries.ensures.items (none_read c.args.script.now)
 
 pub loop-i-preserved : goal.loop-i-preserved
-loop-i-preserved c =
-    let t = next_part _ c.args.script.now _ _ _ c.loop-i.yielded _ c.in-Some.i c.in-Some.line (search rules) (search rules) (search rules) c.loop-i.yielded_by c.in-Some.is c.next.ensures.steps (λ x b q k. search (rules, tests)) in
-    one_read (slice_split (λ b. eqb b 10) c.args.script.now) (length c.loop-i.yielded) _ (c.in-Some.i + 1) c.in-Some.line.now (vec_items c.loop-i.entries) (vec_items c.push_line.new.entries) t.0 t.2 (omega arith) (length_push c.loop-i.yielded (c.in-Some.i, c.in-Some.line)) c.loop-i.invariant c.in_ok-push_line.ensures
+loop-i-preserved c = elim c.if-byte-eq10.branch [
+  | then-byte-eq10+in_ok-push_line w ↦ rw (w.entries-is, w.start-is, w.index-is) (line_read c.args.script.now c.loop-i.start c.loop-i.i (c.loop-i.index + 1) _ _ c.loop-i-test.true w.if-byte-eq10.true c.loop-i.invariant w.in_ok-push_line.ensures)
+  | else-byte-eq10 w ↦ rw (w.entries-is, w.start-is, w.index-is) (byte_read c.args.script.now c.loop-i.start c.loop-i.i (c.loop-i.index + 1) _ c.loop-i-test.true (search rules) c.loop-i.invariant)
+]
+
+pub overflow_add-index : goal.overflow_add-index
+overflow_add-index c = search (rules, c.loop-i.invariant.within)
 
 pub returns : goal.returns
-returns c =
-    let t = no_parts _ c.args.script.now _ _ _ c.loop-i.yielded _ (search rules) (search rules) (search rules) c.loop-i.yielded_by c.in-None.is c.next.ensures.steps (λ x b q k. search (rules, tests)) in
-    all_read c.args.script.now (length c.loop-i.yielded) (vec_items c.loop-i.entries) t c.loop-i.invariant
+returns c = last_read c.args.script.now c.loop-i.start c.loop-i.i (c.loop-i.index + 1) _ _ (search rules) c.loop-i.invariant c.in_ok-push_line-2.ensures
