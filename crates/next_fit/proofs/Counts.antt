@@ -1,5 +1,5 @@
 -- The map of two buffers: its length, its granules, those that are taken, and its changes.
-use Rattle.std.proofs.Common.{zero, count_by, ◌≡◌, ℕ, suc, ◌+◌, ◌*◌, ◌<◌, ◌≤◌, Bool, true, false, cond, List, map, length, get_or, drop, set, replicate, Some, Ok, sym, ◌∙◌, arith}
+use Rattle.std.proofs.Common.{zero, count_by, ◌≡◌, ℕ, suc, ◌+◌, ◌*◌, ◌<◌, ◌≤◌, Bool, true, false, cond, List, map, length, get_or, drop, set, replicate, Some, Ok, sym, ap, ◌∙◌, arith}
 use lib.Seq.{paste}
 use Rattle.bits.proofs.Masks.{zero_bits}
 use Rattle.std.proofs.lemmas.List.{get_or-map, length-map, get_or_past, get_or_default, at_drop_more, at_drop_all, ext_get_or, length-replicate, get_or-replicate}
@@ -102,6 +102,10 @@ pub taken_counted :
 taken_counted us fs r e =
     taken_range (map_of us fs) (λ g. get_or (bits_of us) g false) 0 r (grind (arith, counted))
     (λ g h. sym (taken_there us fs r g e (grind (arith, counted))) ∙ get_or-map is_used (map_of us fs) g Free true h)
+
+-- no granules: none is taken
+pub none_taken : (us fs : List ℕ) (r : ℕ) → r ≡ granules_of (length us) (length fs) → r ≡ 0 → taken_in (map_of us fs) ≡ 0
+none_taken us fs r e z = sym (taken_counted us fs r e) ∙ ap (λ k. count_by (λ g. get_or (bits_of us) g false) (range_with_len 0 k)) z
 
 -- what the functions' goals cite
 pub ruleset fresh_steps = (cells_fresh, length-replicate)

@@ -2,3 +2,4 @@ mod Seeks
 mod Cells
 mod Counts
 mod Lengths
+mod Bytes

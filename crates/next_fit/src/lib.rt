@@ -84,9 +84,12 @@ impl<'a> Allocator for NextFit<'a> {
         self.granules
     }
 
-    #[tactic(auto, using(crate::proofs::Counts::taken_counted))]
+    #[tactic(auto, using(crate::proofs::Counts::taken_counted, crate::proofs::Counts::none_taken))]
     fn taken(&self) -> usize {
-        count_taken(&*self.used, self.granules)
+        if self.granules == 0 {
+            return 0;
+        }
+        count_taken(&*self.used)
     }
 
     fn allowance(&self) -> usize {

@@ -1,7 +1,7 @@
 // Runs of granules.
 // Kept as it is, here and in search.rt: `map_of` of the two buffers in each clause; a name for it would be no plainer, since
 // the trait's `cells` is that very term and each lemma speaks of the two buffers.
-ghost use Rattle.std.specs.Prelude.{◌≡◌, ◌-◌, true, false, count_by, slice_index_or, slice_set};
+ghost use Rattle.std.specs.Prelude.{◌≡◌, ◌-◌, ◌*◌, ◌≤◌, true, false, count_by, length, slice_index_or, slice_set};
 ghost use Rattle.allocator.specs.declared.cell.Cell.TheVariants.{Free};
 ghost use Rattle.std.specs.List.{prefix_len, range_with_len};
 ghost use Rattle.allocator.specs.Maps.{is_rest};
@@ -18,13 +18,13 @@ impl<'a> NextFit<'a> {
     pub(crate) fn cell(&self, g: usize) -> Cell
         ensures { result ≡ slice_index_or (map_of self.now.used.now self.now.firsts.now) g Free }
     {
-        if g >= self.granules {
+        if g >= self.granules || !get(&*self.used, g) {
             return Cell::Free;
         }
-        match (get(&*self.used, g), get(&*self.firsts, g)) {
-            (false, _) => Cell::Free,
-            (true, true) => Cell::First,
-            (true, false) => Cell::Rest,
+        if get(&*self.firsts, g) {
+            Cell::First
+        } else {
+            Cell::Rest
         }
     }
 
@@ -39,11 +39,17 @@ impl<'a> NextFit<'a> {
     }
 }
 
-// How many of the first n granules are used.
-pub(crate) fn count_taken(used: &[u8], n: usize) -> usize
-    ensures { result ≡ count_by (λ g. slice_index_or (bits_of used.now) g false) (range_with_len 0 n) }
+// The number of granules that are used, counted byte by byte.
+#[tactic(auto, using(crate::proofs::Bytes::byte_counted, crate::proofs::Bytes::byte_within))]
+pub(crate) fn count_taken(used: &[u8]) -> usize
+    requires { length used.now ≤ 128 }
+    ensures { result ≡ count_by (λ g. slice_index_or (bits_of used.now) g false) (range_with_len 0 (8 * length used.now)) }
 {
-    (0..n).filter(|&g| get(used, g)).count()
+    let mut taken = 0;
+    for byte in used {
+        taken += byte.count_ones() as usize;
+    }
+    taken
 }
 
 // Among the granules from b up to `end` only b is a first.
