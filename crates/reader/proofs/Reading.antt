@@ -1,7 +1,8 @@
 -- The lines of a script, one after another.
-use Rattle.std.proofs.Common.{◌≡◌, ℕ, suc, ◌+◌, ◌-◌, ◌<◌, ◌≤◌, false, eqb, List, [], ◌∷◌, ◌++◌, length, get_or, take, drop, sym, refl, ap, ◌∙◌, subst, arith}
+use Rattle.std.proofs.Common.{◌≡◌, ℕ, ◌+◌, ◌-◌, ◌<◌, ◌≤◌, false, eqb, List, [], ◌∷◌, ◌++◌, length, get_or, take, drop, sym, refl, ap, ◌∙◌, subst, arith}
 use Rattle.std.specs.List.{All}
 use Rattle.std.proofs.lemmas.List.{append_assoc, take-append-drop, take_more, take_all, drop-drop, length-drop, length-take-le}
+use Rattle.std.proofs.lemmas.List.Elements.{All-head, All-tail}
 use Rattle.std.proofs.lemmas.Grind.{common_steps}
 use Rattle.reader.specs.declared.script.Entry.{Entry}
 use Rattle.reader.specs.Scripts.{lines_of, NumberedLine, numbered_from, numbered_lines, Readings}
@@ -11,16 +12,10 @@ use Rattle.reader.specs.Steps.{LinePushed}
 abbrev pub OneLine : List ℕ → Type 0
 OneLine w = All (λ b. eqb b 10 ≡ false) w
 
-one_head : (c : ℕ) (cs : List ℕ) → OneLine (c ∷ cs) → eqb c 10 ≡ false
-one_head c cs h = h 0 c (omega arith)
-
-one_tail : (c : ℕ) (cs : List ℕ) → OneLine (c ∷ cs) → OneLine cs
-one_tail c cs h = λ k d l. h (suc k) d (omega arith)
-
 -- a line that a byte 10 ends, and the lines behind it
 lines_at : (w rest : List ℕ) → OneLine w → lines_of (w ++ (10 ∷ rest)) ≡ w ∷ lines_of rest
 lines_at [] rest h = refl
-lines_at (c ∷ cs) rest h = rw (one_head c cs h, lines_at cs rest (one_tail c cs h)) refl
+lines_at (c ∷ cs) rest h = rw (All-head (λ b. eqb b 10 ≡ false) c cs h, lines_at cs rest (All-tail (λ b. eqb b 10 ≡ false) c cs h)) refl
 
 -- the last line, if there is one
 lines_end : (n : ℕ) (w : List ℕ) → OneLine w → numbered_from n (lines_of w) ≡ numbered_from n (w ∷ [])
@@ -28,8 +23,8 @@ lines_end n [] h = refl
 lines_end n (c ∷ cs) h = ap (numbered_from n) (go c cs h)
   where
     go : (c : ℕ) (cs : List ℕ) → OneLine (c ∷ cs) → lines_of (c ∷ cs) ≡ (c ∷ cs) ∷ []
-    go c [] h = rw (one_head c [] h) refl
-    go c (d ∷ ds) h = rw (one_head c (d ∷ ds) h, go d ds (one_tail c (d ∷ ds) h)) refl
+    go c [] h = rw (All-head (λ b. eqb b 10 ≡ false) c [] h) refl
+    go c (d ∷ ds) h = rw (All-head (λ b. eqb b 10 ≡ false) c (d ∷ ds) h, go d ds (All-tail (λ b. eqb b 10 ≡ false) c (d ∷ ds) h)) refl
 
 -- a line and those after it
 numbered_cons : (n : ℕ) (w : List ℕ) (ls : List (List ℕ)) → numbered_from n (w ∷ ls) ≡ numbered_from n (w ∷ []) ++ numbered_from (n + 1) ls
@@ -50,8 +45,8 @@ pub record ReadSoFar (script : List ℕ) (start i n : ℕ) (es : List Entry) : T
   pub line : OneLine (take (i - start) (drop start script))
   pub within : (start ≤ i) × (n ≤ i + 1)
 
-pub none_read : (script : List ℕ) → ReadSoFar script 0 0 1 []
-none_read script = record { front = []; whole = refl; read = tt; line = λ k d l. absurd (omega arith); within = (omega arith, omega arith) }
+pub none_read : (script : List ℕ) (es : List Entry) → es ≡ [] → ReadSoFar script 0 0 1 es
+none_read script es e = record { front = []; whole = refl; read = subst (λ (xs : List Entry). Readings [] xs) (sym e) tt; line = λ k d l. absurd (omega arith); within = (omega arith, omega arith) }
 
 -- the byte at i
 at_start : (script : List ℕ) (start i : ℕ) → start ≤ i → i < length script → (i - start < length (drop start script)) × (get_or (drop start script) (i - start) 0 ≡ get_or script i 0)

@@ -49,13 +49,15 @@ fn push_line(entries: &mut Vec<Entry>, line: &[u8], index: usize) -> Result<(), 
 }
 
 // The entries of a script's lines, in order.
+#[tactic(auto, using(crate::proofs::Reading::none_read))]
 fn read_lines(heap: Global, script: &[u8]) -> Result<Vec<Entry>, AllocError>
     ensures { IfOk result (λ entries. Readings (numbered_lines script.now) entries.items) }
 {
     let mut entries = Vec::new(heap);
     let mut start = 0;
     let mut index = 0;
-    // Kept as it is: a `for` over the bytes, since `split` takes nearly twice the time for an empty line.
+    // Kept as it is: a `for` over the bytes, since `split` takes nearly twice the time for an empty line. For a line of many
+    // bytes, which is no call's text, `split` takes less.
     for (i, byte) in script.iter().enumerate() {
         if *byte == b'\n' {
             push_line(&mut entries, &script[start..i], index)?;
